@@ -1,0 +1,17 @@
+pub mod Sets
+pub mod Orders
+pub mod Members
+pub mod Limits
+pub mod Choices
+pub mod Merging
+pub mod Keeping
+pub mod Making
+pub mod Proved
+pub mod Filling
+pub mod Names
+pub mod Containment
+pub mod Precedence
+pub mod Answers
+pub mod Together
+pub mod Indices
+pub mod Rows

@@ -1,0 +1,308 @@
+// after espr/src/ir/complex_entity.rs of ruststep cd89e5a7cd, Apache-2.0; changed
+//
+// Parts: a partial complex entity is a set of at most 12 names, each an index, in rising order.
+ghost use mathlib.Core.Path.{_≡_};
+ghost use mathlib.Core.List.{[], _∷_};
+ghost use Prim.Native.Nat.{_+_, _≤_, min};
+ghost use lib.ListN.{length, drop};
+ghost use lib.Seq.{paste};
+ghost use Rattle.complex_entity.specs.MeaningParts.{order, hasName, contains, dedup, badAfter, newOf};
+ghost use Rattle.complex_entity.specs.MeaningRows.{rowOf};
+ghost use Rattle.complex_entity.specs.Told.{toldOrder};
+ghost use Rattle.complex_entity.specs.MirrorParts.{namesOf, partOf, narrowOf, madeOf, merge, partAt, spottedOf};
+ghost use Rattle.complex_entity.specs.declared.Verdict.the-variants.{Done, Refused};
+ghost use Rattle.refusal.specs.MeaningAnswer.{refused};
+use refusal::Refusal;
+
+// What a comparison answers.
+pub enum Order {
+    Less,
+    Same,
+    More,
+}
+
+// The first index that `new` does not take.
+pub enum Spotted {
+    At(usize),
+    Nowhere,
+}
+
+// Whether a part could be made.
+pub enum Verdict {
+    Done,
+    Refused(Refusal),
+}
+
+// A part, if the verdict says so; otherwise the part of no names.
+pub struct Made {
+    pub verdict: Verdict,
+    pub part: PartialComplexEntity,
+}
+
+// `n` names at the front, zeros after them.
+pub struct PartialComplexEntity {
+    pub n: usize,
+    pub names: [u16; 12],
+}
+
+impl PartialComplexEntity {
+    // A part has at most so many names.
+    pub const LIMIT: usize = 12;
+    // The numbers of a row: a count and the names.
+    pub const ROW: usize = 13;
+    // The greatest index.
+    pub const LAST: u16 = 255;
+
+    // The part of one index.
+    pub fn single(index: u16) -> Self
+        ensures { λ r. ⌜ r ≡ partOf (index ∷ []) ⌝ }
+    {
+        let mut names = [0u16; Self::LIMIT];
+        names[0] = index;
+        Self { n: 1, names }
+    }
+
+    // The part of some indices: repeats beside each other are dropped.
+    pub fn new(indices: &[u16]) -> Made
+        ensures { λ r. ⌜ r ≡ madeOf (newOf (now (indices .entry))) ⌝ }
+    {
+        if let Spotted::At(i) = Self::first_bad(indices) {
+            return Self::refused(Refusal::at(15, i));
+        }
+        Self::distinct(indices)
+    }
+
+    // The place of the first index that falls or is over the last one.
+    fn first_bad(indices: &[u16]) -> Spotted
+        ensures { λ r. ⌜ r ≡ spottedOf (badAfter 0 (now (indices .entry))) ⌝ }
+    {
+        let mut before = 0;
+        let mut i = 0;
+        while i < indices.len() {
+            let x = indices[i];
+            if x < before {
+                return Spotted::At(i);
+            }
+            if Self::LAST < x {
+                return Spotted::At(i);
+            }
+            before = x;
+            i += 1;
+        }
+        Spotted::Nowhere
+    }
+
+    // The indices without repeats beside each other.
+    fn distinct(indices: &[u16]) -> Made
+        ensures { λ r. ⌜ r ≡ narrowOf (dedup (now (indices .entry))) ⌝ }
+    {
+        let mut names = [0u16; Self::LIMIT];
+        if indices.len() == 0 {
+            return Self::made(0, names);
+        }
+        let mut last = indices[0];
+        names[0] = last;
+        let mut n = 1;
+        let mut i = 1;
+        while i < indices.len() {
+            let x = indices[i];
+            if x == last {
+                i += 1;
+            } else if n >= Self::LIMIT {
+                return Self::over();
+            } else {
+                names[n] = x;
+                last = x;
+                n += 1;
+                i += 1;
+            }
+        }
+        Self::made(n, names)
+    }
+
+    // Fewer names first, then the lists of names compared.
+    pub fn compare(self, other: Self) -> Order
+        ensures { λ r. ⌜ toldOrder r ≡ order (namesOf self) (namesOf other) ⌝ }
+    {
+        let n = self.size();
+        let m = other.size();
+        if n < m {
+            return Order::Less;
+        }
+        if m < n {
+            return Order::More;
+        }
+        let mut i = 0;
+        while i < n {
+            let x = self.names[i];
+            let y = other.names[i];
+            if x < y {
+                return Order::Less;
+            }
+            if y < x {
+                return Order::More;
+            }
+            i += 1;
+        }
+        Order::Same
+    }
+
+    pub fn has(self, index: u16) -> bool
+        ensures { λ r. ⌜ r ≡ hasName (namesOf self) index ⌝ }
+    {
+        let n = self.size();
+        let mut i = 0;
+        while i < n {
+            if self.names[i] == index {
+                return true;
+            }
+            i += 1;
+        }
+        false
+    }
+
+    // Each name of the other part is a name of this one.
+    pub fn contains(self, other: Self) -> bool
+        ensures { λ r. ⌜ r ≡ contains (namesOf self) (namesOf other) ⌝ }
+    {
+        let m = other.size();
+        let mut j = 0;
+        while j < m {
+            if !self.has(other.names[j]) {
+                return false;
+            }
+            j += 1;
+        }
+        true
+    }
+
+    // The names of both: the two are walked together.
+    pub fn join(self, other: Self) -> Made
+        ensures { λ r. ⌜ r ≡ narrowOf (merge (namesOf self) (namesOf other)) ⌝ }
+    {
+        let n = self.size();
+        let m = other.size();
+        let mut names = [0u16; Self::LIMIT];
+        let mut i = 0;
+        let mut j = 0;
+        let mut k = 0;
+        loop {
+            if i < n {
+                if k >= Self::LIMIT {
+                    return Self::over();
+                }
+                let x = self.names[i];
+                if j < m {
+                    let y = other.names[j];
+                    if x < y {
+                        names[k] = x;
+                        i += 1;
+                        k += 1;
+                    } else if y < x {
+                        names[k] = y;
+                        j += 1;
+                        k += 1;
+                    } else {
+                        names[k] = x;
+                        i += 1;
+                        j += 1;
+                        k += 1;
+                    }
+                } else {
+                    names[k] = x;
+                    i += 1;
+                    k += 1;
+                }
+            } else if j < m {
+                if k >= Self::LIMIT {
+                    return Self::over();
+                }
+                names[k] = other.names[j];
+                j += 1;
+                k += 1;
+            } else {
+                return Self::made(k, names);
+            }
+        }
+    }
+
+    // The part of the row that begins at a place.
+    pub fn read(rows: &[u16], at: usize) -> Self
+        requires { ⌜ at + 13 ≤ length (now rows) ⌝ }
+        ensures { λ r. ⌜ r ≡ partOf (partAt (drop at (now (rows .entry)))) ⌝ }
+    {
+        let count = rows[at] as usize;
+        let n = Self::at_most(count);
+        let mut names = [0u16; Self::LIMIT];
+        let mut i = 0;
+        while i < n {
+            names[i] = rows[at + 1 + i];
+            i += 1;
+        }
+        Self { n, names }
+    }
+
+    // The part's row goes to a place.
+    pub fn write(self, rows: &mut [u16], at: usize)
+        requires { ⌜ at + 13 ≤ length (now rows) ⌝ }
+        ensures { λ _. ⌜ now (rows .exit) ≡ paste (now (rows .entry)) at (rowOf (namesOf self)) 13 ⌝ }
+    {
+        let n = self.size();
+        rows[at] = n as u16;
+        let mut i = 0;
+        while i < Self::LIMIT {
+            if i < n {
+                rows[at + 1 + i] = self.names[i];
+                i += 1;
+            } else {
+                rows[at + 1 + i] = 0;
+                i += 1;
+            }
+        }
+    }
+
+    // How many names are read, however large the count.
+    fn size(self) -> usize
+        ensures { λ r. ⌜ r ≡ length (namesOf self) ⌝ }
+    {
+        Self::at_most(self.n)
+    }
+
+    fn at_most(count: usize) -> usize
+        ensures { λ r. ⌜ r ≡ min count 12 ⌝ }
+    {
+        if count < Self::LIMIT {
+            count
+        } else {
+            Self::LIMIT
+        }
+    }
+
+    fn made(n: usize, names: [u16; 12]) -> Made
+        ensures { λ r. ⌜ r ≡ record { verdict = Done; part = record { n = n; names = names } } ⌝ }
+    {
+        Made {
+            verdict: Verdict::Done,
+            part: Self { n, names },
+        }
+    }
+
+    fn refused(why: Refusal) -> Made
+        ensures { λ r. ⌜ r ≡ record { verdict = Refused why; part = partOf [] } ⌝ }
+    {
+        Made {
+            verdict: Verdict::Refused(why),
+            part: Self {
+                n: 0,
+                names: [0u16; Self::LIMIT],
+            },
+        }
+    }
+
+    // Over the limit.
+    fn over() -> Made
+        ensures { λ r. ⌜ r ≡ madeOf (refused 11 0) ⌝ }
+    {
+        Self::refused(Refusal::of(11))
+    }
+}

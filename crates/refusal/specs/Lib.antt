@@ -1,0 +1,2 @@
+pub mod MeaningAnswer
+pub mod Told
