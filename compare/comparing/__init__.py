@@ -1,0 +1,1 @@
+"""Compares the answers of the original Rust, the checker and the port."""

@@ -1,0 +1,1 @@
+"""Questions from a seed; shares no code with the checker or the Rust's shim."""
