@@ -1,0 +1,21 @@
+-- `single` meets its contract.
+use borrow.Author.Needs.{needs}
+use Rattle.instantiables.proofs.Listings.{put-one}
+use borrow.Author.Needs.{needs}
+use Rattle.instantiables.proofs.Instantiables.single.Statement.{statement}
+use Rattle.instantiables.proofs.Instantiables.single.Tie as tie
+
+single-requires : tie.Need-single-requires
+single-requires c κs = search needs
+
+write-requires : tie.Need-write-requires
+write-requires c κs = search needs
+
+same-length : tie.Need-same-length
+same-length c = search needs
+
+returns : tie.Need-returns
+returns c = search (put-one, needs)
+
+pub single-spec : {M : Type 1} → statement M
+single-spec = tie.close (tie.spec single-requires write-requires same-length returns)

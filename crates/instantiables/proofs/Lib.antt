@@ -1,0 +1,13 @@
+pub mod Shifts
+pub mod Flats
+pub mod Listings
+pub mod Growing
+pub mod Halving
+pub mod Insertion
+pub mod Seeking
+pub mod Keeping
+pub mod Feeds
+pub mod Factors
+pub mod Walks
+pub mod Terms
+pub mod Choosing

@@ -1,0 +1,21 @@
+-- Places in a sorted list, as the code finds and opens them.
+use mathlib.Core.List.{List, [], _∷_, _++_}
+use Prim.Native.Nat.{ℕ, suc, _+_}
+use lib.ListN.{take, drop}
+use Rattle.complex_entity.specs.MeaningParts.{Part, order}
+use Rattle.complex_entity.specs.MirrorParts.{by}
+use Rattle.instantiables.specs.declared.Spot.{Spot}
+use Rattle.instantiables.specs.declared.Spot.the-variants.{Found, Gap}
+
+abbrev pub further : ℕ → Spot → Spot
+further k (Found i) = Found (k + i)
+further k (Gap i) = Gap (k + i)
+
+-- where a part stands in a list, or before which part it would go
+unfoldable pub placeOf : List Part → Part → Spot
+placeOf [] p = Gap 0
+placeOf (q ∷ L) p = by (order p q) (Gap 0) (Found 0) (further 1 (placeOf L p))
+
+-- the numbers from at up to end, a row further up; the row at `at` is what it was
+abbrev pub opened : ℕ → ℕ → List ℕ → List ℕ
+opened at end l = take (at + 13) l ++ (drop at (take end l) ++ drop (end + 13) l)

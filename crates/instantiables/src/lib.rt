@@ -1,0 +1,498 @@
+// after espr/src/ir/complex_entity.rs of ruststep cd89e5a7cd, Apache-2.0; changed
+//
+// Lists of parts as rows of 13 numbers at the front of a lent slice, worked on in place.
+ghost use mathlib.Core.Path.{_≡_};
+ghost use mathlib.Core.List.{[], _∷_, _++_};
+ghost use Prim.Native.Nat.{_+_, _*_, _<_, _≤_};
+ghost use lib.ListN.{length, take, drop};
+ghost use Rattle.refusal.specs.MeaningAnswer.{done};
+ghost use Rattle.complex_entity.specs.MeaningParts.{order, contains};
+ghost use Rattle.complex_entity.specs.MeaningLists.{add, joins, bitand, sub, div, held, any, equal, oneofOf, prefixes, andOf, andorOf};
+ghost use Rattle.complex_entity.specs.Told.{toldOrder};
+ghost use Rattle.complex_entity.specs.MirrorParts.{namesOf, partAt};
+ghost use Rattle.instantiables.specs.MirrorRows.{partsAt, listsAt, sum, Stands, Sets, AllSets, Put, Listing};
+ghost use Rattle.instantiables.specs.MirrorLists.{placeOf, opened};
+ghost use Rattle.complex_entity.specs.MirrorLists.{grown};
+ghost use Rattle.instantiables.specs.Told.{toldListed};
+ghost use Rattle.instantiables.specs.declared.Listed.the-variants.{Refused};
+use complex_entity::Order;
+use complex_entity::PartialComplexEntity;
+use complex_entity::Verdict;
+use refusal::Refusal;
+
+// Where a part stands in a list, or where it would go.
+pub enum Spot {
+    Found(usize),
+    Gap(usize),
+}
+
+// The list that stands at the front of the slice now, or why there is none.
+pub enum Listed {
+    Rows(Instantiables),
+    Refused(Refusal),
+}
+
+// A list of parts: so many rows at the front of the slice that is lent beside it.
+pub struct Instantiables {
+    pub count: usize,
+}
+
+impl Instantiables {
+    // A list has at most so many parts.
+    pub const LIMIT: usize = 128;
+    // The numbers of that many rows.
+    pub const ROOM: usize = 1664;
+    // An ANDOR has at most so many factors.
+    pub const FACTORS: usize = 12;
+
+    // The list of no parts.
+    pub fn empty() -> Self
+        ensures { λ r. ⌜ r ≡ record { count = 0 } ⌝ }
+    {
+        Self { count: 0 }
+    }
+
+    // The list of one part of one name.
+    pub fn single(rows: &mut [u16], index: u16) -> Self
+        requires { ⌜ 13 ≤ length (now rows) ⌝ }
+        ensures { λ r. ⌜ (r ≡ record { count = 1 }) × Put ((index ∷ []) ∷ []) (now (rows .entry)) (now (rows .exit)) ⌝ }
+    {
+        PartialComplexEntity::single(index).write(rows, 0);
+        Self { count: 1 }
+    }
+
+    // [A, B] + C = [A, B, C]
+    pub fn add_part(self, rows: &mut [u16], part: PartialComplexEntity) -> Listed
+        requires { ⌜ Stands (now rows) (self .count) ⌝ }
+        ensures { λ r. ⌜ Listing (held (add (partsAt (self .count) (now (rows .entry))) (namesOf part ∷ []))) (now (rows .entry)) (now (rows .exit)) (toldListed r) ⌝ }
+    {
+        let found = place_last(rows, self.count, part);
+        let Spot::Gap(i) = found else {
+            return Listed::Rows(self);
+        };
+        if self.count >= Self::LIMIT {
+            return Self::over();
+        }
+        let at = 13 * i;
+        open_row(rows, at, 13 * self.count);
+        part.write(rows, at);
+        Listed::Rows(Self {
+            count: self.count + 1,
+        })
+    }
+
+    // [A, B] + [C, D] = [A, B, C, D]
+    pub fn add(self, rows: &mut [u16], other: Self, others: &[u16]) -> Listed
+        requires { ⌜ Stands (now rows) (self .count) × (13 * other .count ≤ length (now others)) ⌝ }
+        ensures { λ r. ⌜ Listing (held (add (partsAt (self .count) (now (rows .entry))) (partsAt (other .count) (now (others .entry))))) (now (rows .entry)) (now (rows .exit)) (toldListed r) ⌝ }
+    {
+        let mut list = self;
+        let mut at = 0;
+        let mut left = other.count;
+        while 0 < left {
+            let part = PartialComplexEntity::read(others, at);
+            let r = list.add_part(rows, part);
+            let Listed::Rows(more) = r else {
+                return r;
+            };
+            list = more;
+            at += 13;
+            left -= 1;
+        }
+        Listed::Rows(list)
+    }
+
+    // The joins of a part with each of a list's are added.
+    pub fn add_joins_with(
+        self,
+        rows: &mut [u16],
+        part: PartialComplexEntity,
+        other: Self,
+        others: &[u16],
+    ) -> Listed
+        requires { ⌜ Stands (now rows) (self .count) × (13 * other .count ≤ length (now others)) ⌝ }
+        requires { ⌜ Sets (namesOf part ∷ []) × Sets (partsAt (other .count) (now others)) ⌝ }
+        ensures { λ r. ⌜ Listing (held (add (partsAt (self .count) (now (rows .entry))) (joins (namesOf part ∷ []) (partsAt (other .count) (now (others .entry)))))) (now (rows .entry)) (now (rows .exit)) (toldListed r) ⌝ }
+    {
+        let mut list = self;
+        let mut at = 0;
+        let mut left = other.count;
+        while 0 < left {
+            let joined = part.join(PartialComplexEntity::read(others, at));
+            let verdict = joined.verdict;
+            if let Verdict::Refused(why) = verdict {
+                return Listed::Refused(why);
+            }
+            let r = list.add_part(rows, joined.part);
+            let Listed::Rows(more) = r else {
+                return r;
+            };
+            list = more;
+            at += 13;
+            left -= 1;
+        }
+        Listed::Rows(list)
+    }
+
+    // The joins of each part of one list with each of another are added.
+    pub fn add_joins(
+        self,
+        rows: &mut [u16],
+        left: Self,
+        lefts: &[u16],
+        right: Self,
+        rights: &[u16],
+    ) -> Listed
+        requires { ⌜ Stands (now rows) (self .count) × (13 * left .count ≤ length (now lefts)) × (13 * right .count ≤ length (now rights)) ⌝ }
+        requires { ⌜ Sets (partsAt (left .count) (now lefts)) × Sets (partsAt (right .count) (now rights)) ⌝ }
+        ensures { λ r. ⌜ Listing (held (add (partsAt (self .count) (now (rows .entry))) (joins (partsAt (left .count) (now (lefts .entry))) (partsAt (right .count) (now (rights .entry)))))) (now (rows .entry)) (now (rows .exit)) (toldListed r) ⌝ }
+    {
+        let mut list = self;
+        let mut at = 0;
+        let mut todo = left.count;
+        while 0 < todo {
+            let part = PartialComplexEntity::read(lefts, at);
+            let r = list.add_joins_with(rows, part, right, rights);
+            let Listed::Rows(more) = r else {
+                return r;
+            };
+            list = more;
+            at += 13;
+            todo -= 1;
+        }
+        Listed::Rows(list)
+    }
+
+    // [A, B] & [C, D] = [A & C, A & D, B & C, B & D]
+    pub fn bitand(
+        rows: &mut [u16],
+        left: Self,
+        lefts: &[u16],
+        right: Self,
+        rights: &[u16],
+    ) -> Listed
+        requires { ⌜ (1664 ≤ length (now rows)) × (13 * left .count ≤ length (now lefts)) × (13 * right .count ≤ length (now rights)) ⌝ }
+        requires { ⌜ Sets (partsAt (left .count) (now lefts)) × Sets (partsAt (right .count) (now rights)) ⌝ }
+        ensures { λ r. ⌜ Listing (held (bitand (partsAt (left .count) (now (lefts .entry))) (partsAt (right .count) (now (rights .entry))))) (now (rows .entry)) (now (rows .exit)) (toldListed r) ⌝ }
+    {
+        Self::empty().add_joins(rows, left, lefts, right, rights)
+    }
+
+    // [A, B] & C = [A & C, B & C], and C & [A, B] is the same
+    pub fn bitand_part(
+        rows: &mut [u16],
+        list: Self,
+        parts: &[u16],
+        part: PartialComplexEntity,
+    ) -> Listed
+        requires { ⌜ (1664 ≤ length (now rows)) × (13 * list .count ≤ length (now parts)) ⌝ }
+        requires { ⌜ Sets (namesOf part ∷ []) × Sets (partsAt (list .count) (now parts)) ⌝ }
+        ensures { λ r. ⌜ Listing (held (bitand (partsAt (list .count) (now (parts .entry))) (namesOf part ∷ []))) (now (rows .entry)) (now (rows .exit)) (toldListed r) ⌝ }
+    {
+        Self::empty().add_joins_with(rows, part, list, parts)
+    }
+
+    // One factor more of an ANDOR: the list as it was is copied to a scratch that is lent.
+    pub fn andor_step(
+        self,
+        rows: &mut [u16],
+        factor: Self,
+        factors: &[u16],
+        old: &mut [u16],
+    ) -> Listed
+        requires { ⌜ Stands (now rows) (self .count) × (13 * factor .count ≤ length (now factors)) × (1664 ≤ length (now old)) ⌝ }
+        requires { ⌜ Sets (partsAt (self .count) (now rows)) × Sets (partsAt (factor .count) (now factors)) ⌝ }
+        ensures { λ r. ⌜ Listing (held (grown (partsAt (self .count) (now (rows .entry))) (partsAt (factor .count) (now (factors .entry))))) (now (rows .entry)) (now (rows .exit)) (toldListed r) ⌝ }
+    {
+        copy(old, rows, 13 * self.count);
+        let r = self.add_joins(rows, self, old, factor, factors);
+        let Listed::Rows(more) = r else {
+            return r;
+        };
+        more.add(rows, factor, factors)
+    }
+
+    // [A1, A2, B1, B2] - [A2, B1] = [A1, B2]
+    pub fn sub(self, rows: &mut [u16], other: Self, others: &[u16]) -> Self
+        requires { ⌜ (13 * self .count ≤ length (now rows)) × (13 * other .count ≤ length (now others)) ⌝ }
+        ensures { λ r. ⌜ Listing (done (sub (partsAt (self .count) (now (rows .entry))) (partsAt (other .count) (now (others .entry))))) (now (rows .entry)) (now (rows .exit)) (done (r .count)) ⌝ }
+    {
+        let mut kept = 0;
+        let mut to = 0;
+        let mut at = 0;
+        let mut left = self.count;
+        while 0 < left {
+            let part = PartialComplexEntity::read(rows, at);
+            if other.has(others, part) {
+                at += 13;
+                left -= 1;
+            } else {
+                part.write(rows, to);
+                kept += 1;
+                to += 13;
+                at += 13;
+                left -= 1;
+            }
+        }
+        Self { count: kept }
+    }
+
+    // [A, A & B, A & C, A & B & D, B & C, D] / [B, D] = [A & B, A & B & D, B & C, D]
+    pub fn div(self, rows: &mut [u16], other: Self, others: &[u16]) -> Self
+        requires { ⌜ (13 * self .count ≤ length (now rows)) × (13 * other .count ≤ length (now others)) ⌝ }
+        ensures { λ r. ⌜ Listing (done (div (partsAt (self .count) (now (rows .entry))) (partsAt (other .count) (now (others .entry))))) (now (rows .entry)) (now (rows .exit)) (done (r .count)) ⌝ }
+    {
+        let mut kept = 0;
+        let mut to = 0;
+        let mut at = 0;
+        let mut left = self.count;
+        while 0 < left {
+            let part = PartialComplexEntity::read(rows, at);
+            if other.some_in(others, part) {
+                part.write(rows, to);
+                kept += 1;
+                to += 13;
+                at += 13;
+                left -= 1;
+            } else {
+                at += 13;
+                left -= 1;
+            }
+        }
+        Self { count: kept }
+    }
+
+    // The list has an equal part.
+    pub fn has(self, rows: &[u16], part: PartialComplexEntity) -> bool
+        requires { ⌜ 13 * self .count ≤ length (now rows) ⌝ }
+        ensures { λ r. ⌜ r ≡ any (equal (namesOf part)) (partsAt (self .count) (now (rows .entry))) ⌝ }
+    {
+        let mut at = 0;
+        let mut left = self.count;
+        while 0 < left {
+            if same_at(part, rows, at) {
+                return true;
+            }
+            at += 13;
+            left -= 1;
+        }
+        false
+    }
+
+    // The part contains one of the list's.
+    pub fn some_in(self, rows: &[u16], part: PartialComplexEntity) -> bool
+        requires { ⌜ 13 * self .count ≤ length (now rows) ⌝ }
+        ensures { λ r. ⌜ r ≡ any (contains (namesOf part)) (partsAt (self .count) (now (rows .entry))) ⌝ }
+    {
+        let mut at = 0;
+        let mut left = self.count;
+        while 0 < left {
+            if part.contains(PartialComplexEntity::read(rows, at)) {
+                return true;
+            }
+            at += 13;
+            left -= 1;
+        }
+        false
+    }
+
+    // ONEOF(A, B, C) -> [A, B, C]
+    pub fn oneof(rows: &mut [u16], counts: &[u16], lists: &[u16]) -> Listed
+        requires { ⌜ (1664 ≤ length (now rows)) × (13 * sum (now counts) ≤ length (now lists)) ⌝ }
+        ensures { λ r. ⌜ Listing (oneofOf (listsAt (now (counts .entry)) (now (lists .entry)))) (now (rows .entry)) (now (rows .exit)) (toldListed r) ⌝ }
+    {
+        let mut list = Self::empty();
+        let mut at = 0;
+        let mut i = 0;
+        while i < counts.len() {
+            let count = counts[i] as usize;
+            let r = list.add(rows, Self { count }, &lists[at..]);
+            let Listed::Rows(more) = r else {
+                return r;
+            };
+            list = more;
+            at += 13 * count;
+            i += 1;
+        }
+        Listed::Rows(list)
+    }
+
+    // A AND B AND C -> [A & B & C]; every prefix is held to the limits
+    pub fn and(rows: &mut [u16], counts: &[u16], lists: &[u16], old: &mut [u16]) -> Listed
+        requires { ⌜ (1664 ≤ length (now rows)) × (1664 ≤ length (now old)) × (13 * sum (now counts) ≤ length (now lists)) ⌝ }
+        requires { ⌜ AllSets (listsAt (now counts) (now lists)) ⌝ }
+        ensures { λ r. ⌜ Listing (andOf (listsAt (now (counts .entry)) (now (lists .entry)))) (now (rows .exit)) (now (rows .exit)) (toldListed r) ⌝ }
+    {
+        if counts.len() < 2 {
+            return Self::refused(9);
+        }
+        let first = counts[0] as usize;
+        let second = counts[1] as usize;
+        let at = 13 * first;
+        let r = Self::bitand(
+            rows,
+            Self { count: first },
+            lists,
+            Self { count: second },
+            &lists[at..],
+        );
+        let Listed::Rows(two) = r else {
+            return r;
+        };
+        let further = at + 13 * second;
+        two.and_more(rows, &counts[2..], &lists[further..], old)
+    }
+
+    // The further terms of an AND: shorter lists may follow longer ones, so what is past the rows is not what it was.
+    fn and_more(self, rows: &mut [u16], counts: &[u16], lists: &[u16], old: &mut [u16]) -> Listed
+        requires { ⌜ Stands (now rows) (self .count) × (1664 ≤ length (now old)) × (13 * sum (now counts) ≤ length (now lists)) ⌝ }
+        requires { ⌜ Sets (partsAt (self .count) (now rows)) × AllSets (listsAt (now counts) (now lists)) ⌝ }
+        ensures { λ r. ⌜ Listing (prefixes (partsAt (self .count) (now (rows .entry))) (listsAt (now (counts .entry)) (now (lists .entry)))) (now (rows .exit)) (now (rows .exit)) (toldListed r) ⌝ }
+    {
+        let mut list = self;
+        let mut at = 0;
+        let mut i = 0;
+        while i < counts.len() {
+            let count = counts[i] as usize;
+            copy(old, rows, 13 * list.count);
+            let r = Self::bitand(rows, list, old, Self { count }, &lists[at..]);
+            let Listed::Rows(more) = r else {
+                return r;
+            };
+            list = more;
+            at += 13 * count;
+            i += 1;
+        }
+        Listed::Rows(list)
+    }
+
+    // A ANDOR B ANDOR C -> [A, B, C, A & B, B & C, A & C, A & B & C]
+    pub fn andor(rows: &mut [u16], counts: &[u16], lists: &[u16], old: &mut [u16]) -> Listed
+        requires { ⌜ (1664 ≤ length (now rows)) × (1664 ≤ length (now old)) × (13 * sum (now counts) ≤ length (now lists)) ⌝ }
+        requires { ⌜ AllSets (listsAt (now counts) (now lists)) ⌝ }
+        ensures { λ r. ⌜ Listing (andorOf (listsAt (now (counts .entry)) (now (lists .entry)))) (now (rows .entry)) (now (rows .exit)) (toldListed r) ⌝ }
+    {
+        if counts.len() == 0 {
+            return Self::refused(9);
+        }
+        if Self::FACTORS < counts.len() {
+            return Self::refused(10);
+        }
+        let mut list = Self::empty();
+        let mut at = 0;
+        let mut i = 0;
+        while i < counts.len() {
+            let count = counts[i] as usize;
+            let r = list.andor_step(rows, Self { count }, &lists[at..], old);
+            let Listed::Rows(more) = r else {
+                return r;
+            };
+            list = more;
+            at += 13 * count;
+            i += 1;
+        }
+        Listed::Rows(list)
+    }
+
+    fn refused(number: u8) -> Listed
+        ensures { λ r. ⌜ r ≡ Refused (record { number = number; place = 0 }) ⌝ }
+    {
+        Listed::Refused(Refusal::of(number))
+    }
+
+    // Over a limit.
+    fn over() -> Listed
+        ensures { λ r. ⌜ r ≡ Refused (record { number = 11; place = 0 }) ⌝ }
+    {
+        Self::refused(11)
+    }
+}
+
+// A part against the row at a place.
+pub fn compare_at(part: PartialComplexEntity, rows: &[u16], at: usize) -> Order
+    requires { ⌜ at + 13 ≤ length (now rows) ⌝ }
+    ensures { λ r. ⌜ toldOrder r ≡ order (namesOf part) (partAt (drop at (now (rows .entry)))) ⌝ }
+{
+    part.compare(PartialComplexEntity::read(rows, at))
+}
+
+// A part is equal to the row at a place.
+fn same_at(part: PartialComplexEntity, rows: &[u16], at: usize) -> bool
+    requires { ⌜ at + 13 ≤ length (now rows) ⌝ }
+    ensures { λ r. ⌜ r ≡ equal (namesOf part) (partAt (drop at (now (rows .entry)))) ⌝ }
+{
+    match compare_at(part, rows, at) {
+        Order::Less => false,
+        Order::Same => true,
+        Order::More => false,
+    }
+}
+
+// The place of a part in a list, by halving.
+pub fn place(rows: &[u16], count: usize, part: PartialComplexEntity) -> Spot
+    requires { ⌜ Stands (now rows) count ⌝ }
+    ensures { λ r. ⌜ r ≡ placeOf (partsAt count (now (rows .entry))) (namesOf part) ⌝ }
+{
+    let mut low = 0;
+    let mut high = count;
+    while low < high {
+        let middle = low + ((high - low) >> 1);
+        match compare_at(part, rows, 13 * middle) {
+            Order::Less => {
+                high = middle;
+            }
+            Order::Same => {
+                return Spot::Found(middle);
+            }
+            Order::More => {
+                low = middle + 1;
+            }
+        }
+    }
+    Spot::Gap(low)
+}
+
+// The same, the last row looked at first, since results often come in order.
+pub fn place_last(rows: &[u16], count: usize, part: PartialComplexEntity) -> Spot
+    requires { ⌜ Stands (now rows) count ⌝ }
+    ensures { λ r. ⌜ r ≡ placeOf (partsAt count (now (rows .entry))) (namesOf part) ⌝ }
+{
+    if 0 < count {
+        match compare_at(part, rows, 13 * (count - 1)) {
+            Order::Less => {
+                return place(rows, count, part);
+            }
+            Order::Same => {
+                return Spot::Found(count - 1);
+            }
+            Order::More => {
+                return Spot::Gap(count);
+            }
+        }
+    }
+    Spot::Gap(0)
+}
+
+// The numbers from `at` up to `end` move up by a row.
+pub fn open_row(rows: &mut [u16], at: usize, end: usize)
+    requires { ⌜ (at ≤ end) × (end + 13 ≤ length (now rows)) ⌝ }
+    ensures { λ _. ⌜ now (rows .exit) ≡ opened at end (now (rows .entry)) ⌝ }
+{
+    let mut k = end;
+    while at < k {
+        k -= 1;
+        rows[k + 13] = rows[k];
+    }
+}
+
+// The first n numbers of one slice go to the front of another.
+pub fn copy(to: &mut [u16], from: &[u16], n: usize)
+    requires { ⌜ (n ≤ length (now to)) × (n ≤ length (now from)) ⌝ }
+    ensures { λ _. ⌜ now (to .exit) ≡ take n (now (from .entry)) ++ drop n (now (to .entry)) ⌝ }
+{
+    let mut i = 0;
+    while i < n {
+        to[i] = from[i];
+        i += 1;
+    }
+}

@@ -1,0 +1,13 @@
+pub mod Choosing
+pub mod Spelling
+pub mod Serving
+pub mod Deciding
+pub mod Onward
+pub mod Sequences
+pub mod Tabulated
+pub mod Valuing
+pub mod Counting
+pub mod Judging
+pub mod FirstFault
+pub mod Proved
+pub mod SmallSheets

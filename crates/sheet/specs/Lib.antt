@@ -1,0 +1,11 @@
+pub mod MeaningReading
+pub mod MeaningName
+pub mod MeaningGrammar
+pub mod MeaningSheet
+pub mod Told
+pub mod Promises
+pub mod Claims
+pub mod MirrorRows
+pub mod MirrorTable
+pub mod MirrorField
+pub mod MirrorCheck

@@ -1,0 +1,546 @@
+// The verdict on a sheet: accepted, or refused with document 01's number and place.
+ghost use mathlib.Core.Path.{_≡_};
+ghost use Prim.Native.Nat.{_<_, _≤_};
+ghost use mathlib.Core.List.{[]};
+ghost use lib.ListN.{getD, length};
+ghost use Rattle.refusal.specs.declared.Refusal.{Refusal};
+ghost use Rattle.sheet.specs.MeaningName.{isLetter, isNameByte, isName};
+ghost use Rattle.sheet.specs.MeaningReading.Reading.{rust};
+ghost use Rattle.sheet.specs.Told.{toldReading};
+ghost use Rattle.sheet.specs.Promises.{Promise-verdict};
+ghost use Rattle.sheet.specs.MirrorRows.{rows};
+ghost use Rattle.sheet.specs.MirrorTable.{rowCount, columnCount, cellAt, serves, rowOf, answerAt};
+ghost use Rattle.sheet.specs.MirrorField.{fieldAt};
+ghost use Rattle.sheet.specs.MirrorCheck.{kindFault, lengthFault, valueFault, fieldFault, nextCount, countUp, atEnd, goOn, stepAt, walkAt, sheetCheck};
+use refusal::Refusal;
+
+// Under which reading a sheet is judged: what a row of the table answers depends on it.
+pub enum Reading {
+    Rust,
+}
+
+// The verdict.
+pub enum Judgement {
+    Accepted,
+    Refused(Refusal),
+}
+
+// What stands at a place: a field, or a header or value that passes its parent's end.
+pub enum Header {
+    Field { tag: u8, start: usize, stop: usize },
+    Passes,
+}
+
+// How many fields have stood that count for a limit.
+pub struct Counts {
+    pub schemas: u16,
+    pub declarations: u16,
+    pub constraints: u16,
+    pub terms: u16,
+}
+
+impl Counts {
+    pub const SCHEMAS: u16 = 8;
+
+    pub const DECLARATIONS: u16 = 256;
+
+    pub const CONSTRAINTS: u16 = 64;
+    // Expressions, and names in fields 34.
+    pub const TERMS: u16 = 512;
+}
+
+// One count with the next field.
+pub enum Tally {
+    Upto(u16),
+    Beyond,
+}
+
+// All counts with the next field.
+pub enum Counted {
+    Within(Counts),
+    Over,
+}
+
+// One step in a value. `next` is the value's state after a field.
+pub enum Step {
+    // The value ends.
+    Done(Counts),
+    // A field is passed.
+    Past {
+        stop: usize,
+        next: u16,
+        counts: Counts,
+    },
+    // A field that holds fields is entered: its tag, where its value starts and stops, `next`, the depth left inside it, the counts.
+    Into(u16, usize, usize, u16, u16, Counts),
+    Stop(Refusal),
+}
+
+// What the check of a value answers: the counts after it.
+pub enum Checked {
+    Accepted(Counts),
+    Refused(Refusal),
+}
+
+const MOST_BYTES: u16 = 65535;
+
+// Levels of expressions, a lone reference being 1.
+const MOST_DEPTH: u16 = 5;
+
+const NAME_BYTES: u16 = 32;
+
+// ---- The table. Its columns:
+
+const PARENT: usize = 0;
+
+const TAG: usize = 1;
+
+// The first and the last state of the parent in which the tag may stand. A state says how many slots of its value are over.
+const FIRST: usize = 2;
+
+const LAST: usize = 3;
+
+// The parent's state after it.
+const NEXT: usize = 4;
+
+// Bytes of its value.
+const SHORTEST: usize = 5;
+
+const LONGEST: usize = 6;
+
+const KIND: usize = 7;
+
+// Which count it counts for.
+const CLASS: usize = 8;
+
+// How many levels of expression depth it takes.
+const LEVELS: usize = 9;
+
+// 0, or the number that the tag is refused with.
+const ANSWER: usize = 10;
+
+const COLUMNS: usize = 11;
+
+// A tag that no byte is: its row says in which states the parent's value may end.
+const END: u16 = 256;
+
+// Kinds of values; 3 is an empty one.
+const FIELDS: u16 = 0;
+
+const NAME: u16 = 1;
+
+const SIMPLE: u16 = 2;
+
+const ROW_COUNT: usize = 52;
+
+// Every tag with its permitted parents and lengths.
+const ROWS: [[u16; COLUMNS]; ROW_COUNT] = [
+    [0x00, 0x01, 0, 0, 0, 0, MOST_BYTES, 0, 1, 0, 0],
+    [0x00, END, 0, 1, 0, 0, 0, 3, 0, 0, 0],
+    [0x01, 0x10, 0, 0, 1, 1, NAME_BYTES, 1, 0, 0, 0],
+    [0x01, 0x20, 1, 1, 1, 0, MOST_BYTES, 0, 2, 0, 0],
+    [0x01, 0x30, 1, 2, 2, 0, MOST_BYTES, 0, 2, 0, 0],
+    [0x01, 0x40, 1, 3, 3, 0, MOST_BYTES, 0, 3, 0, 0],
+    [0x01, END, 1, 4, 0, 0, 0, 3, 0, 0, 0],
+    [0x20, 0x10, 0, 0, 1, 1, NAME_BYTES, 1, 0, 0, 0],
+    [0x20, 0x21, 1, 1, 2, 1, 1, 2, 0, 0, 0],
+    [0x20, 0x22, 1, 1, 2, 0, 0, 3, 0, 0, 0],
+    [0x20, 0x23, 1, 1, 2, 1, NAME_BYTES, 1, 0, 0, 0],
+    [0x20, 0x24, 1, 1, 2, 0, 0, 3, 0, 0, 0],
+    [0x20, END, 2, 2, 0, 0, 0, 3, 0, 0, 0],
+    [0x30, 0x10, 0, 0, 1, 1, NAME_BYTES, 1, 0, 0, 0],
+    [0x30, 0x31, 1, 1, 2, 0, MOST_BYTES, 0, 0, 0, 0],
+    [0x30, 0x32, 1, 1, 2, 0, 0, 3, 0, 0, 0],
+    [0x30, 0x33, 1, 1, 2, 0, MOST_BYTES, 0, 0, 0, 0],
+    [0x30, 0x34, 1, 2, 3, 0, MOST_BYTES, 0, 0, 0, 0],
+    [0x30, END, 1, 3, 0, 0, 0, 3, 0, 0, 0],
+    [0x31, 0x50, 0, 0, 1, 1, NAME_BYTES, 1, 4, 1, 0],
+    [0x31, 0x51, 0, 0, 1, 0, MOST_BYTES, 0, 4, 1, 0],
+    [0x31, 0x52, 0, 0, 1, 0, MOST_BYTES, 0, 4, 1, 0],
+    [0x31, 0x53, 0, 0, 1, 0, MOST_BYTES, 0, 4, 1, 0],
+    [0x31, END, 1, 1, 0, 0, 0, 3, 0, 0, 0],
+    [0x33, 0x50, 0, 0, 1, 1, NAME_BYTES, 1, 4, 1, 0],
+    [0x33, 0x51, 0, 0, 1, 0, MOST_BYTES, 0, 4, 1, 0],
+    [0x33, 0x52, 0, 0, 1, 0, MOST_BYTES, 0, 4, 1, 0],
+    [0x33, 0x53, 0, 0, 1, 0, MOST_BYTES, 0, 4, 1, 0],
+    [0x33, END, 0, 1, 0, 0, 0, 3, 0, 0, 0],
+    [0x34, 0x10, 0, 0, 0, 1, NAME_BYTES, 1, 4, 0, 0],
+    [0x34, END, 0, 1, 0, 0, 0, 3, 0, 0, 0],
+    [0x40, 0x10, 0, 0, 1, 1, NAME_BYTES, 1, 0, 0, 0],
+    [0x40, 0x50, 1, 1, 2, 1, NAME_BYTES, 1, 4, 1, 0],
+    [0x40, 0x51, 1, 1, 2, 0, MOST_BYTES, 0, 4, 1, 0],
+    [0x40, 0x52, 1, 1, 2, 0, MOST_BYTES, 0, 4, 1, 0],
+    [0x40, 0x53, 1, 1, 2, 0, MOST_BYTES, 0, 4, 1, 0],
+    [0x40, END, 1, 2, 0, 0, 0, 3, 0, 0, 0],
+    [0x51, 0x50, 0, 0, 0, 1, NAME_BYTES, 1, 4, 1, 0],
+    [0x51, 0x51, 0, 0, 0, 0, MOST_BYTES, 0, 4, 1, 0],
+    [0x51, 0x52, 0, 0, 0, 0, MOST_BYTES, 0, 4, 1, 0],
+    [0x51, 0x53, 0, 0, 0, 0, MOST_BYTES, 0, 4, 1, 0],
+    [0x51, END, 0, 1, 0, 0, 0, 3, 0, 0, 0],
+    [0x52, 0x50, 0, 0, 0, 1, NAME_BYTES, 1, 4, 1, 0],
+    [0x52, 0x51, 0, 0, 0, 0, MOST_BYTES, 0, 4, 1, 0],
+    [0x52, 0x52, 0, 0, 0, 0, MOST_BYTES, 0, 4, 1, 0],
+    [0x52, 0x53, 0, 0, 0, 0, MOST_BYTES, 0, 4, 1, 0],
+    [0x52, END, 0, 1, 0, 0, 0, 3, 0, 0, 0],
+    [0x53, 0x50, 0, 0, 0, 1, NAME_BYTES, 1, 4, 1, 0],
+    [0x53, 0x51, 0, 0, 0, 0, MOST_BYTES, 0, 4, 1, 0],
+    [0x53, 0x52, 0, 0, 0, 0, MOST_BYTES, 0, 4, 1, 0],
+    [0x53, 0x53, 0, 0, 0, 0, MOST_BYTES, 0, 4, 1, 0],
+    [0x53, END, 0, 1, 0, 0, 0, 3, 0, 0, 0],
+];
+
+// Refuses with the first fault of the sheet, or accepts it if it has none.
+pub fn verdict(sheet: &[u8]) -> Judgement
+    ensures { λ r. ⌜ Promise-verdict rust (now (sheet .entry)) r ⌝ }
+{
+    verdict_in(Reading::Rust, sheet)
+}
+
+// The same in a reading that the caller chooses.
+pub fn verdict_in(reading: Reading, sheet: &[u8]) -> Judgement
+    ensures { λ r. ⌜ Promise-verdict (toldReading reading) (now (sheet .entry)) r ⌝ }
+{
+    match check_sheet(reading, sheet) {
+        Checked::Accepted(_) => Judgement::Accepted,
+        Checked::Refused(refusal) => Judgement::Refused(refusal),
+    }
+}
+
+fn check_sheet(reading: Reading, sheet: &[u8]) -> Checked
+    ensures { λ r. ⌜ r ≡ sheetCheck (toldReading reading) (now (sheet .entry)) ⌝ }
+{
+    if sheet.len() <= MOST_BYTES as usize {
+        let none = Counts {
+            schemas: 0,
+            declarations: 0,
+            constraints: 0,
+            terms: 0,
+        };
+        return check_fields(reading, sheet, 0, 0, sheet.len(), MOST_DEPTH, none);
+    }
+    Checked::Refused(Refusal::of(1))
+}
+
+// The fields of one value, each with what stands inside it.
+fn check_fields(
+    reading: Reading,
+    s: &[u8],
+    parent: u16,
+    at: usize,
+    end: usize,
+    depth: u16,
+    counts: Counts,
+) -> Checked
+    requires { ⌜ (at ≤ end) × (end ≤ length (now s)) ⌝ }
+    ensures { λ r. ⌜ r ≡ walkAt (toldReading reading) (now (s .entry)) parent 0 at end depth counts ⌝ }
+{
+    let mut state: u16 = 0;
+    let mut from = at;
+    let mut c = counts;
+    loop {
+        match step_at(reading, s, parent, state, from, end, depth, c) {
+            Step::Done(counts) => return Checked::Accepted(counts),
+            Step::Past { stop, next, counts } => {
+                from = stop;
+                state = next;
+                c = counts;
+            }
+            Step::Into(tag, start, stop, next, inner, counts) => {
+                let r = check_fields(reading, s, tag, start, stop, inner, counts);
+                let Checked::Accepted(after) = r else {
+                    return r;
+                };
+                from = stop;
+                state = next;
+                c = after;
+            }
+            Step::Stop(refusal) => return Checked::Refused(refusal),
+        }
+    }
+}
+
+// All that is checked at one place, in the order 3, 4, 5. `depth` is what is left of it.
+fn step_at(
+    reading: Reading,
+    s: &[u8],
+    parent: u16,
+    state: u16,
+    at: usize,
+    end: usize,
+    depth: u16,
+    counts: Counts,
+) -> Step
+    requires { ⌜ (at ≤ end) × (end ≤ length (now s)) ⌝ }
+    ensures { λ r. ⌜ r ≡ stepAt (toldReading reading) (now (s .entry)) parent state at end depth counts ⌝ }
+{
+    if at == end {
+        return end_step(parent, state, end, counts);
+    }
+    let Header::Field { tag, start, stop } = field_at(s, at, end) else {
+        return Step::Stop(Refusal::at(3, at));
+    };
+    let t = tag as u16;
+    let row = row_of(parent, state, t);
+    let fault = field_fault(reading, &s[start..stop], row, depth);
+    if fault != 0 {
+        return Step::Stop(Refusal::at(fault, at));
+    }
+    let Counted::Within(c) = count_up(cell(row, CLASS), counts) else {
+        return Step::Stop(Refusal::at(5, at));
+    };
+    go_on(row, t, start, stop, depth, c)
+}
+
+// The end of a value: no needed field may be missing.
+fn end_step(parent: u16, state: u16, end: usize, counts: Counts) -> Step
+    ensures { λ r. ⌜ r ≡ atEnd parent state end counts ⌝ }
+{
+    if row_of(parent, state, END) < ROW_COUNT {
+        return Step::Done(counts);
+    }
+    Step::Stop(Refusal::at(3, end))
+}
+
+// After a field without a fault: into its value if it holds fields, otherwise past it.
+fn go_on(row: usize, tag: u16, start: usize, stop: usize, depth: u16, counts: Counts) -> Step
+    requires { ⌜ (row < rowCount) × (cellAt row 9 ≤ depth) ⌝ }
+    ensures { λ r. ⌜ r ≡ goOn tag start stop row depth counts ⌝ }
+{
+    let next = cell(row, NEXT);
+    if cell(row, KIND) != FIELDS {
+        return Step::Past { stop, next, counts };
+    }
+    let inner = depth - cell(row, LEVELS);
+    Step::Into(tag, start, stop, next, inner, counts)
+}
+
+// The fault of a field by itself, whatever has stood before it: 0, or the refusal's number. Where no row serves, the tag is not allowed.
+fn field_fault(reading: Reading, v: &[u8], row: usize, depth: u16) -> u8
+    ensures { λ r. ⌜ r ≡ fieldFault (toldReading reading) (now (v .entry)) row depth ⌝ }
+{
+    if ROW_COUNT <= row {
+        return 3;
+    }
+    let answer = row_answer(reading, row);
+    if answer != 0 {
+        return answer;
+    }
+    let fault = value_fault(v, row);
+    if fault != 0 {
+        return fault;
+    }
+    if depth < cell(row, LEVELS) {
+        return 5;
+    }
+    0
+}
+
+// The fault of a value: 0, or the refusal's number.
+fn value_fault(v: &[u8], row: usize) -> u8
+    requires { ⌜ row < rowCount ⌝ }
+    ensures { λ r. ⌜ r ≡ valueFault (now (v .entry)) row ⌝ }
+{
+    let kind = cell(row, KIND);
+    if v.len() < cell(row, SHORTEST) as usize {
+        return length_fault(kind);
+    }
+    if (cell(row, LONGEST) as usize) < v.len() {
+        return length_fault(kind);
+    }
+    kind_fault(v, kind)
+}
+
+// A wrong length is a fault of a name, or of any other value.
+fn length_fault(kind: u16) -> u8
+    ensures { λ r. ⌜ r ≡ lengthFault kind ⌝ }
+{
+    if kind == NAME { 4 } else { 3 }
+}
+
+// A value that has a length of its kind.
+fn kind_fault(v: &[u8], kind: u16) -> u8
+    ensures { λ r. ⌜ r ≡ kindFault (now (v .entry)) kind ⌝ }
+{
+    if kind == NAME {
+        if is_name(v) {
+            return 0;
+        }
+        return 4;
+    }
+    if kind == SIMPLE {
+        if 0 < v.len() {
+            if v[0] <= 6 {
+                return 0;
+            }
+            return 3;
+        }
+    }
+    0
+}
+
+// All counts after a field of this class.
+fn count_up(class: u16, c: Counts) -> Counted
+    ensures { λ r. ⌜ r ≡ countUp class c ⌝ }
+{
+    let Tally::Upto(schemas) = next_count(class, 1, c.schemas, Counts::SCHEMAS) else {
+        return Counted::Over;
+    };
+    let Tally::Upto(declarations) = next_count(class, 2, c.declarations, Counts::DECLARATIONS)
+    else {
+        return Counted::Over;
+    };
+    let Tally::Upto(constraints) = next_count(class, 3, c.constraints, Counts::CONSTRAINTS) else {
+        return Counted::Over;
+    };
+    let Tally::Upto(terms) = next_count(class, 4, c.terms, Counts::TERMS) else {
+        return Counted::Over;
+    };
+    Counted::Within(Counts {
+        schemas,
+        declarations,
+        constraints,
+        terms,
+    })
+}
+
+// One count after a field of this class: one more, if the class is the count's own.
+fn next_count(class: u16, own: u16, count: u16, most: u16) -> Tally
+    ensures { λ r. ⌜ r ≡ nextCount class own count most ⌝ }
+{
+    if class != own {
+        return Tally::Upto(count);
+    }
+    if count < most {
+        return Tally::Upto(count + 1);
+    }
+    Tally::Beyond
+}
+
+// The header at a place of a value that ends at `end`.
+pub fn field_at(s: &[u8], at: usize, end: usize) -> Header
+    requires { ⌜ (at ≤ end) × (end ≤ length (now s)) ⌝ }
+    ensures { λ r. ⌜ r ≡ fieldAt (now (s .entry)) at end ⌝ }
+{
+    if end - at < 3 {
+        return Header::Passes;
+    }
+    let n = wide(s[at + 1]) * 256 + wide(s[at + 2]);
+    let start = at + 3;
+    if end - start < n {
+        return Header::Passes;
+    }
+    Header::Field {
+        tag: s[at],
+        start,
+        stop: start + n,
+    }
+}
+
+// A byte as a part of a length.
+fn wide(byte: u8) -> usize
+    ensures { λ r. ⌜ (r ≡ byte) × (r < 256) ⌝ }
+{
+    byte as usize
+}
+
+// 1 to 32 bytes, a letter, then letters, digits or underscores.
+pub fn is_name(v: &[u8]) -> bool
+    ensures { λ r. ⌜ r ≡ isName (now (v .entry)) ⌝ }
+{
+    if (NAME_BYTES as usize) < v.len() {
+        return false;
+    }
+    if v.len() == 0 {
+        return false;
+    }
+    if !is_letter(v[0]) {
+        return false;
+    }
+    let mut i: usize = 0;
+    while i < v.len() {
+        if !is_name_byte(v[i]) {
+            return false;
+        }
+        i += 1;
+    }
+    true
+}
+
+fn is_name_byte(b: u8) -> bool
+    ensures { λ r. ⌜ r ≡ isNameByte b ⌝ }
+{
+    if is_letter(b) {
+        return true;
+    }
+    if b == b'_' {
+        return true;
+    }
+    if b < b'0' {
+        return false;
+    }
+    b <= b'9'
+}
+
+fn is_letter(b: u8) -> bool
+    ensures { λ r. ⌜ r ≡ isLetter b ⌝ }
+{
+    if b < b'A' {
+        return false;
+    }
+    if b <= b'Z' {
+        return true;
+    }
+    if b < b'a' {
+        return false;
+    }
+    b <= b'z'
+}
+
+// The first row for the tag in this state of its parent, or the number of rows.
+fn row_of(parent: u16, state: u16, tag: u16) -> usize
+    ensures { λ r. ⌜ r ≡ rowOf parent state tag ⌝ }
+{
+    let mut i: usize = 0;
+    while i < ROW_COUNT {
+        if row_serves(i, parent, state, tag) {
+            return i;
+        }
+        i += 1;
+    }
+    i
+}
+
+// Is the row for this parent and tag, and the state within its bounds?
+fn row_serves(i: usize, parent: u16, state: u16, tag: u16) -> bool
+    requires { ⌜ i < rowCount ⌝ }
+    ensures { λ r. ⌜ r ≡ serves parent state tag (getD rows i []) ⌝ }
+{
+    if cell(i, PARENT) != parent {
+        return false;
+    }
+    if cell(i, TAG) != tag {
+        return false;
+    }
+    if state < cell(i, FIRST) {
+        return false;
+    }
+    state <= cell(i, LAST)
+}
+
+// What a row answers: 0, or the number that the tag is refused with.
+fn row_answer(reading: Reading, row: usize) -> u8
+    requires { ⌜ row < rowCount ⌝ }
+    ensures { λ r. ⌜ r ≡ answerAt (toldReading reading) row ⌝ }
+{
+    match reading {
+        Reading::Rust => cell(row, ANSWER) as u8,
+    }
+}
+
+// The table is asked here and nowhere else.
+fn cell(i: usize, j: usize) -> u16
+    requires { ⌜ (i < rowCount) × (j < columnCount) ⌝ }
+    ensures { λ r. ⌜ r ≡ cellAt i j ⌝ }
+{
+    ROWS[i][j]
+}
