@@ -1,6 +1,6 @@
 -- What each way through the functions of one step answers: a law for each, with the tests and the answers from below that the code has there.
 use mathlib.Core.Path.{_≡_, refl, sym, _∙_}
-use mathlib.Core.List.{List, [], _∷_}
+use mathlib.Core.List.{List}
 use mathlib.Core.Bool.{Bool, true, false, cond}
 use Prim.Native.Nat.{ℕ, _+_, _-_, _*_, _<_, _≤_}
 use native.Mathlib.Omega.{arith}
@@ -10,7 +10,7 @@ use lib.ListN.{length, getD, take, drop, List·getD-eq-default}
 use Rattle.refusal.specs.declared.Refusal.{Refusal}
 use Rattle.sheet.specs.MeaningReading.{Reading}
 use Rattle.sheet.specs.MeaningName.{isName}
-use Rattle.sheet.specs.MeaningGrammar.{most-bytes, most-depth, Limit, most}
+use Rattle.sheet.specs.MeaningGrammar.{most-bytes, most-depth, most}
 use Rattle.sheet.specs.MeaningGrammar.Limit.{schemas, declarations, constraints, terms}
 use Rattle.sheet.specs.MeaningSheet.{tagOf, sizeOf}
 use Rattle.sheet.specs.MirrorTable.{rowCount, cellAt, rowOf, answerAt}
@@ -26,7 +26,7 @@ use Rattle.sheet.specs.declared.Counted.the-variants.{Within, Over}
 use Rattle.sheet.specs.declared.Step.{Step}
 use Rattle.sheet.specs.declared.Step.the-variants.{Done, Past, Into, Stop}
 use Rattle.sheet.specs.declared.Checked.{Checked}
-use Rattle.sheet.specs.declared.Checked.the-variants.{Accepted, Refused}
+use Rattle.sheet.specs.declared.Checked.the-variants.{Refused}
 use Rattle.sheet.proofs.Choosing.{either, clash}
 
 -- ---- the header

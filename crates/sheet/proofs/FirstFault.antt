@@ -2,16 +2,16 @@
 use mathlib.Core.Path.{_≡_, refl, sym, ap, subst, _∙_}
 use mathlib.Core.Logic.{_⊎_, inl, inr}
 use mathlib.Core.List.{List, [], _∷_, _++_}
-use mathlib.Core.Bool.{Bool, true, false, cond}
+use mathlib.Core.Bool.{Bool, true, false}
 use Prim.Native.Nat.{ℕ, zero, suc, _+_, _-_, _*_, _<_, _≤_}
 use native.Mathlib.Nat.{not-suc-le-zero, le-refl}
 use native.Mathlib.Omega.{arith}
 use borrow.Author.Tests.{le-leb, lt-leb, leb-true, leb-false}
 use lib.Dec.{leb}
-use lib.ListN.{length, getD}
+use lib.ListN.{length}
 use Rattle.refusal.specs.declared.Refusal.{Refusal}
 use Rattle.sheet.specs.MeaningReading.{Reading}
-use Rattle.sheet.specs.MeaningGrammar.{oneOf, expressions, Kind, kindOf, most-bytes, most-depth}
+use Rattle.sheet.specs.MeaningGrammar.{oneOf, expressions, kindOf, most-bytes, most-depth}
 use Rattle.sheet.specs.MeaningGrammar.Kind.{fields}
 use Rattle.sheet.specs.MeaningSheet.{tagOf, endOf, Stood, howMany, Open, deep, Comes, Wrong, Fault, NotAfter, First}
 use Rattle.sheet.specs.MeaningSheet.Open.{within}
@@ -28,7 +28,7 @@ use Rattle.sheet.specs.declared.Checked.the-variants.{Accepted, Refused}
 use Rattle.sheet.proofs.Choosing.{clash}
 use Rattle.sheet.proofs.Onward.{walk-eq}
 use Rattle.sheet.proofs.Tabulated.{Fit, sheet-fit}
-use Rattle.sheet.proofs.Judging.{countsOf, Over-it, Judged, judged, from3}
+use Rattle.sheet.proofs.Judging.{countsOf, Judged, judged, from3}
 
 then-then : (x : Checked) (f g : Counts → Checked) → andThen (andThen x f) g ≡ andThen x (λ c. andThen (f c) g)
 unfolding andThen

@@ -1,28 +1,26 @@
 -- One step says what is wrong at its place, the least number first, or that nothing is.
-use mathlib.Core.Path.{_≡_, refl, sym, ap, subst, _∙_}
-use mathlib.Core.Logic.{_⊎_, inl, inr}
+use mathlib.Core.Path.{_≡_, refl, sym, _∙_}
 use mathlib.Core.List.{List, [], _∷_, _++_}
 use mathlib.Core.Bool.{Bool, true, false, cond}
 use Prim.Native.Nat.{ℕ, zero, suc, _+_, _-_, _<_, _≤_}
 use native.Mathlib.Omega.{arith}
-use borrow.Author.Tests.{eqb-true, eqb-false, eq-eqb, ne-eqb, ltb-true, ltb-false, lt-ltb, le-ltb, lt-leb}
-use lib.Dec.{eqb, ltb, leb}
-use lib.ListN.{length, getD, take, drop, length-take, length-drop}
+use borrow.Author.Tests.{eqb-true, eqb-false, ltb-true, ltb-false}
+use lib.Dec.{eqb, ltb}
+use lib.ListN.{length, length-take, length-drop}
 use Rattle.sheet.specs.MeaningReading.{Reading, answers}
 use Rattle.sheet.specs.MeaningReading.Reading.{rust}
-use Rattle.sheet.specs.MeaningName.{most-name-bytes, isName, startsWithLetter}
+use Rattle.sheet.specs.MeaningName.{isName}
 use Rattle.sheet.specs.MeaningGrammar.{oneOf, expressions, slotsOf, Fills, Kind, kindOf, isSimple, most-bytes, most-depth, Limit, most, counts}
 use Rattle.sheet.specs.MeaningGrammar.Kind.{name, simple, empty, fields}
 use Rattle.sheet.specs.MeaningGrammar.Limit.{schemas, declarations, constraints, terms}
 use Rattle.sheet.specs.MeaningSheet.{tagOf, sizeOf, endOf, valueOf, Stood, howMany, Open, deep, Wrong}
 use Rattle.sheet.specs.MeaningSheet.Open.{within}
 use Rattle.sheet.specs.MeaningSheet.Wrong.{passes, badTag, badSimple, full, missing, badName, limit, depth, forbidden}
-use Rattle.sheet.specs.MirrorRows.{leafKind}
 use Rattle.sheet.specs.MirrorTable.{rowCount, cellAt, rowOf, answerAt}
 use Rattle.sheet.specs.MirrorField.{fieldAt}
-use Rattle.sheet.specs.MirrorCheck.{kindFault, lengthFault, valueFault, depthFault, orNext, fieldFault, countUp, stopAt, atEnd, goOn, onCount, onFault, onHeader, stepAt}
+use Rattle.sheet.specs.MirrorCheck.{valueFault, depthFault, orNext, fieldFault, countUp, stopAt, atEnd, goOn, onCount, onFault, onHeader, stepAt}
 use Rattle.sheet.specs.declared.Header.{Header}
-use Rattle.sheet.specs.declared.Header.the-variants.{Field, Passes}
+use Rattle.sheet.specs.declared.Header.the-variants.{Passes}
 use Rattle.sheet.specs.declared.Counts.{Counts}
 use Rattle.sheet.specs.declared.Counted.{Counted}
 use Rattle.sheet.specs.declared.Counted.the-variants.{Within, Over}

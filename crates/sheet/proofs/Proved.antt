@@ -7,14 +7,13 @@ use native.Mathlib.Omega.{arith}
 use Rattle.refusal.specs.declared.Refusal.{Refusal}
 use Rattle.refusal.specs.MeaningAnswer.{Answer, done, refused}
 use Rattle.sheet.specs.MeaningReading.{Reading}
-use Rattle.sheet.specs.MeaningSheet.{Fault, First, NotAfter, Is}
+use Rattle.sheet.specs.MeaningSheet.{NotAfter, Is}
 use Rattle.sheet.specs.Told.{told}
 use Rattle.sheet.specs.Promises.{Promise-verdict}
 use Rattle.sheet.specs.Claims.{AllBytes, One-verdict, Some-verdict, Refuses-exactly, Accepts-exactly, Told-injective, VerdictOnce}
 use Rattle.sheet.specs.MirrorCheck.{sheetCheck}
 use Rattle.sheet.specs.declared.Counts.{Counts}
 use Rattle.sheet.specs.declared.Checked as checked
-use Rattle.sheet.specs.declared.Judgement.{Judgement}
 use Rattle.sheet.specs.declared.Judgement.the-variants.{Accepted, Refused}
 use Rattle.sheet.proofs.Choosing.{clash}
 use Rattle.sheet.proofs.FirstFault.{check-refuses, check-accepts}

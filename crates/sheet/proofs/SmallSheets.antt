@@ -8,7 +8,6 @@ use borrow.Author.Tests.{ltb-true}
 use lib.Dec.{ltb}
 use lib.ListN.{getD}
 use Rattle.refusal.specs.MeaningAnswer.{Answer, done, refused}
-use Rattle.sheet.specs.MeaningReading.{Reading}
 use Rattle.sheet.specs.MeaningReading.Reading.{rust}
 use Rattle.sheet.specs.MeaningName.{isLetter, isNameByte, allNameBytes, startsWithLetter, isName}
 use Rattle.sheet.specs.MeaningGrammar.{grammar, slot, line, expressions, oneOf, needed, slotsOf, slotsIn, Fills, kindOf}

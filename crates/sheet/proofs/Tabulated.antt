@@ -10,7 +10,7 @@ use lib.Dec.{eqb, ltb, leb}
 use lib.ListN.{length, getD, drop}
 use Rattle.sheet.specs.MeaningReading.{Reading, answers}
 use Rattle.sheet.specs.MeaningReading.Reading.{rust}
-use Rattle.sheet.specs.MeaningGrammar.{Slot, grammar, expressions, slot, line, oneOf, needed, again, slotsIn, slotsOf, Fills, Kind, kindOf, Limit, counts}
+use Rattle.sheet.specs.MeaningGrammar.{Slot, grammar, expressions, slot, line, oneOf, needed, again, slotsIn, slotsOf, Fills, kindOf, Limit, counts}
 use Rattle.sheet.specs.MeaningGrammar.Kind.{fields}
 use Rattle.sheet.specs.MeaningGrammar.Limit.{schemas, declarations, constraints, terms}
 use Rattle.sheet.specs.MirrorRows.{rows, leafKind, levelsOf}

@@ -1,3 +1,4 @@
+-- Meanings first; then what the answers mean, the promises and the claims; then the mirrors of the code.
 pub mod MeaningReading
 pub mod MeaningName
 pub mod MeaningGrammar

@@ -8,7 +8,7 @@ use lib.ListN.{length, getD, take, drop}
 use Rattle.refusal.specs.MeaningAnswer.{Answer, done, refused}
 use Rattle.sheet.specs.MeaningReading.{Reading, answers}
 use Rattle.sheet.specs.MeaningName.{isName}
-use Rattle.sheet.specs.MeaningGrammar.{oneOf, expressions, slotsOf, Fills, Kind, kindOf, isSimple, most-bytes, most-depth, Limit, most, counts}
+use Rattle.sheet.specs.MeaningGrammar.{oneOf, expressions, slotsOf, Fills, kindOf, isSimple, most-bytes, most-depth, Limit, most, counts}
 use Rattle.sheet.specs.MeaningGrammar.Kind.{name, simple, empty, fields}
 
 -- ---- "A field is one tag byte, two length bytes (high byte first), then the value." "A field's place is its tag's offset"
@@ -32,12 +32,12 @@ valueOf s at = take (sizeOf s at) (drop (at + 3) s)
 pub data Open : Type 0 where
   within : (parent end : ℕ) (earlier : List ℕ) → Open
 
--- A field that has stood: its parent's tag and its own
+-- a field that has stood: its parent's tag and its own
 abbrev pub Stood : Type 0
 Stood = ℕ × ℕ
 
 -- Reading in order, "depth first", comes to this place, with these values open, the innermost first, and after these fields, the last first.
--- If the place lies before the end of the innermost value, a field stands there; what lies behind a field that passes that end is not come to
+-- If the place lies before the end of the innermost value, a field stands there; it is gone into or past if it does not pass that end
 pub data Comes (s : List ℕ) : List Open → ℕ → List Stood → Type 0 where
   -- the sheet's first byte
   start : Comes s (within 0 (length s) [] ∷ []) 0 []
@@ -55,7 +55,7 @@ unfoldable pub howMany : Limit → List Stood → ℕ
 howMany l [] = 0
 howMany l (f ∷ fs) = cond (counts l (f .0) (f .1)) (howMany l fs + 1) (howMany l fs)
 
--- how many of the open values are expressions: a field that stands here is one deeper
+-- how many of the open values are expressions: an expression that stands here is one deeper
 unfoldable pub deep : List Open → ℕ
 deep [] = 0
 deep (within p e es ∷ os) = cond (oneOf expressions p) (deep os + 1) (deep os)
@@ -85,7 +85,7 @@ module _ (rd : Reading) (s : List ℕ) (p e : ℕ) (es : List ℕ) (os : List Op
     limit : at < e → (l : Limit) → counts l p t ≡ true → most l ≤ howMany l fs → Wrong 5
     -- 5 ".. or depth passed", at the first field beyond: an expression inside as many as there may be, "a lone reference being 1"
     depth : at < e → oneOf expressions t ≡ true → most-depth ≤ deep (within p e es ∷ os) → Wrong 5
-    -- the reading refuses the tag there
+    -- the reading refuses the tag there, at that field: in the base none does
     forbidden : at < e → 0 < answers rd p t → Wrong (answers rd p t)
 
 -- the faults of a sheet: number and place

@@ -4,10 +4,9 @@ use mathlib.Core.List.{List}
 use mathlib.Core.Bool.{cond}
 use lib.ListN.{length, getD, take, drop}
 use lib.Dec.{ltb, leb, eqb}
-use Rattle.refusal.specs.declared.Refusal.{Refusal}
 use Rattle.sheet.specs.MeaningReading.{Reading}
 use Rattle.sheet.specs.MeaningName.{isName}
-use Rattle.sheet.specs.MeaningGrammar.{most-bytes, most-depth, Limit, most}
+use Rattle.sheet.specs.MeaningGrammar.{most-bytes, most-depth, most}
 use Rattle.sheet.specs.MeaningGrammar.Limit.{schemas, declarations, constraints, terms}
 use Rattle.sheet.specs.MirrorTable.{rowCount, cellAt, rowOf, answerAt}
 use Rattle.sheet.specs.MirrorField.{fieldAt}

@@ -5,10 +5,10 @@
 use Prim.Native.Nat.{ℕ, suc}
 use mathlib.Core.List.{List, [], _∷_, _++_, map}
 use mathlib.Core.Bool.{cond}
-use Rattle.sheet.specs.MeaningReading.{Reading, answers}
+use Rattle.sheet.specs.MeaningReading.{answers}
 use Rattle.sheet.specs.MeaningReading.Reading.{rust}
 use Rattle.sheet.specs.MeaningName.{most-name-bytes}
-use Rattle.sheet.specs.MeaningGrammar.{Often, Slot, slot, expressions, Line, line, grammar, oneOf, Kind, kindOf, most-bytes, Limit, counts}
+use Rattle.sheet.specs.MeaningGrammar.{Often, Slot, slot, expressions, Line, line, grammar, oneOf, Kind, kindOf, most-bytes, counts}
 use Rattle.sheet.specs.MeaningGrammar.Often.{one, atMostOne, any}
 use Rattle.sheet.specs.MeaningGrammar.Kind.{name, simple, empty, fields}
 use Rattle.sheet.specs.MeaningGrammar.Limit.{schemas, declarations, constraints, terms}

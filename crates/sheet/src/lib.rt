@@ -3,7 +3,6 @@ ghost use mathlib.Core.Path.{_≡_};
 ghost use Prim.Native.Nat.{_<_, _≤_};
 ghost use mathlib.Core.List.{[]};
 ghost use lib.ListN.{getD, length};
-ghost use Rattle.refusal.specs.declared.Refusal.{Refusal};
 ghost use Rattle.sheet.specs.MeaningName.{isLetter, isNameByte, isName};
 ghost use Rattle.sheet.specs.MeaningReading.Reading.{rust};
 ghost use Rattle.sheet.specs.Told.{toldReading};

@@ -1,0 +1,4 @@
+-- Meanings, then claims.
+pub mod MeaningForest
+pub mod MeaningPlaces
+pub mod Claims
