@@ -1,0 +1,58 @@
+// Answers in words: what was listed, compared, judged or refused, and what changed in the lent buffer.
+use algebra::Compared;
+use complex_entity::Order;
+use instantiables::Listed;
+use refusal::Refusal;
+use sheet::Judgement;
+
+// The longest buffer that is lent.
+pub const BUFFER: usize = 1664;
+
+// A line that is no question.
+pub fn unknown(out: &mut [u8]) -> usize {
+    lines::text(out, 0, b"unknown")
+}
+
+pub fn listed(out: &mut [u8], told: Listed, buffer: &[u16; BUFFER]) -> usize {
+    let end = counted(out, told);
+    lines::changes(out, end, buffer)
+}
+
+fn counted(out: &mut [u8], told: Listed) -> usize {
+    match told {
+        Listed::Refused(why) => refused(out, why),
+        Listed::Rows(list) => {
+            let start = lines::text(out, 0, b"ok ");
+            lines::decimal(out, start, list.count)
+        }
+    }
+}
+
+pub fn compared(out: &mut [u8], told: Compared) -> usize {
+    match told {
+        Compared::Refused(why) => refused(out, why),
+        Compared::Is(order) => ordered(out, order),
+    }
+}
+
+fn ordered(out: &mut [u8], order: Order) -> usize {
+    match order {
+        Order::Less => lines::text(out, 0, b"ok -1"),
+        Order::Same => lines::text(out, 0, b"ok 0"),
+        Order::More => lines::text(out, 0, b"ok 1"),
+    }
+}
+
+pub fn judged(out: &mut [u8], told: Judgement) -> usize {
+    match told {
+        Judgement::Refused(why) => refused(out, why),
+        Judgement::Accepted => lines::text(out, 0, b"ok"),
+    }
+}
+
+fn refused(out: &mut [u8], why: Refusal) -> usize {
+    let start = lines::text(out, 0, b"refused ");
+    let middle = lines::decimal(out, start, why.number as usize);
+    let blank = lines::put(out, middle, b' ');
+    lines::decimal(out, blank, why.place)
+}

@@ -1,0 +1,117 @@
+// The questions: each shape of words is decoded, asked as it stands, malformed or not, and answered.
+ghost use lib.ListN.{length};
+ghost use Rattle.lines.specs.Values.{AtMost};
+use crate::answers::BUFFER;
+use crate::answers::compared;
+use crate::answers::judged;
+use crate::answers::listed;
+use crate::answers::unknown;
+use crate::operators::ask;
+use lines::Number;
+
+// The longest word of numbers that is asked has 130 rows.
+const WORD: usize = 1690;
+
+// The longest sheet that is asked has 65,536 bytes.
+const SHEET: usize = 65600;
+
+// Writes the answer to a line; answers its length.
+pub fn answer(line: &[u8], out: &mut [u8]) -> usize {
+    let name = lines::word(line, 0);
+    if lines::is(name, b"verdict") {
+        return verdict(line, out);
+    }
+    if lines::is(name, b"new") {
+        return new(line, out);
+    }
+    if lines::is(name, b"single") {
+        return single(line, out);
+    }
+    if lines::among(name, b"compare join add bitand sub div oneof and andor") {
+        return of_two(line, out);
+    }
+    if lines::among(
+        name,
+        b"part_add part_bitand add_part bitand_part sub_part div_part",
+    ) {
+        return of_two(line, out);
+    }
+    unknown(out)
+}
+
+fn verdict(line: &[u8], out: &mut [u8]) -> usize {
+    let mut bytes = [0u8; SHEET];
+    let Number::Is(count) = lines::bytes(lines::word(line, 1), &mut bytes) else {
+        return unknown(out);
+    };
+    judged(out, sheet::verdict(&bytes[0..count]))
+}
+
+fn new(line: &[u8], out: &mut [u8]) -> usize {
+    let mut indices = [0u16; WORD];
+    let mut buffer = [0u16; BUFFER];
+    let Number::Is(count) = lines::numbers(lines::word(line, 1), &mut indices) else {
+        return unknown(out);
+    };
+    let Number::Is(size) = lend(lines::word(line, 2), &mut buffer) else {
+        return unknown(out);
+    };
+    let told = algebra::new(&indices[0..count], &mut buffer[0..size]);
+    listed(out, told, &buffer)
+}
+
+fn single(line: &[u8], out: &mut [u8]) -> usize {
+    let mut buffer = [0u16; BUFFER];
+    let Number::Is(index) = lines::decimal_of(lines::word(line, 1)) else {
+        return unknown(out);
+    };
+    if 65535 < index {
+        return unknown(out);
+    }
+    let Number::Is(size) = lend(lines::word(line, 2), &mut buffer) else {
+        return unknown(out);
+    };
+    let told = algebra::single(index as u16, &mut buffer[0..size]);
+    listed(out, told, &buffer)
+}
+
+// A question on two words of numbers: parts, lists, or counts and rows.
+fn of_two(line: &[u8], out: &mut [u8]) -> usize {
+    let mut first = [0u16; WORD];
+    let mut second = [0u16; WORD];
+    let Number::Is(left) = lines::numbers(lines::word(line, 1), &mut first) else {
+        return unknown(out);
+    };
+    let Number::Is(right) = lines::numbers(lines::word(line, 2), &mut second) else {
+        return unknown(out);
+    };
+    of_words(line, out, &first[0..left], &second[0..right])
+}
+
+// Only the comparison of two parts has no buffer.
+fn of_words(line: &[u8], out: &mut [u8], first: &[u16], second: &[u16]) -> usize {
+    let name = lines::word(line, 0);
+    if lines::is(name, b"compare") {
+        return compared(out, algebra::compare(first, second));
+    }
+    let mut buffer = [0u16; BUFFER];
+    let Number::Is(size) = lend(lines::word(line, 3), &mut buffer) else {
+        return unknown(out);
+    };
+    let told = ask(name, first, second, &mut buffer[0..size]);
+    listed(out, told, &buffer)
+}
+
+// How many of the buffer's numbers are lent, as the word says. All are filled, so a change past them would show.
+fn lend(word: &[u8], buffer: &mut [u16; BUFFER]) -> Number
+    ensures { λ r. ⌜ AtMost (length (now (buffer .exit))) r ⌝ }
+{
+    let Number::Is(size) = lines::decimal_of(word) else {
+        return Number::Missing;
+    };
+    if BUFFER < size {
+        return Number::Missing;
+    }
+    lines::lend(buffer);
+    Number::Is(size)
+}
