@@ -6,6 +6,12 @@ def truncations(data):
     return [data[:length] for length in range(len(data))]
 
 
+def byte_changes(data):
+    """Every copy with one byte changed."""
+    return [data[:at] + bytes([byte]) + data[at + 1:]
+            for at in range(len(data)) for byte in range(256) if byte != data[at]]
+
+
 def one_byte_changed(rng, data):
     """A copy with one byte changed."""
     at = rng.randrange(len(data))

@@ -12,11 +12,22 @@ SIZES = [[0], [255], [0, 1], [0, 2], [1, 2], [254, 255], [0, 1, 2], list(range(1
          list(range(1, 13))]
 
 
+FOUR_NAMES = [[name for name in range(4) if choice >> name & 1] for choice in range(16)]
+
+
 def orders():
     """`compare` of parts of every size."""
     for left in SIZES:
         for right in SIZES:
             yield c.question("compare", c.row(left), c.row(right))
+
+
+def pairs_of_parts():
+    """`compare` and `join` of every two parts over four names."""
+    for left in FOUR_NAMES:
+        for right in FOUR_NAMES:
+            yield c.question("compare", c.row(left), c.row(right))
+            yield c.question("join", c.row(left), c.row(right), c.FULL)
 
 
 def small_operands():
@@ -96,7 +107,8 @@ def made_parts():
 
 def corners():
     """The fixed questions of this group."""
-    for make in (orders, small_operands, several_lists, large_results, large_parts, made_parts):
+    for make in (orders, pairs_of_parts, small_operands, several_lists, large_results, large_parts,
+                 made_parts):
         yield from make()
 
 

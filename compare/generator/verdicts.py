@@ -3,7 +3,7 @@
 from . import coding as c
 from . import limits
 from .corner_sheets import cam
-from .damage import perhaps_damaged, truncations
+from .damage import byte_changes, perhaps_damaged, truncations
 from .sheets import sheet
 
 A, S = b"a", b"s"
@@ -60,8 +60,13 @@ def rich():
                     c.constraint(b"b", c.andor(c.ref(b"d")))) + c.schema(b"t")
 
 
+def small_sheets():
+    """Sheets of some bytes only: a schema alone, with an entity, with a simple type."""
+    return c.schema(S), c.schema(S, c.entity(A)), c.schema(S, c.simple(b"n"))
+
+
 def every_corner():
-    """Every limit, every tag, every front part of two sheets."""
+    """Every limit, every tag, every front part of two sheets, every byte of small ones changed."""
     yield b""
     yield from limits.small()
     yield from every_tag()
@@ -69,6 +74,8 @@ def every_corner():
     yield from truncations(rich())
     yield from limits.large()
     yield from limits.lengths()
+    for data in small_sheets():
+        yield from byte_changes(data)
 
 
 def corners():
