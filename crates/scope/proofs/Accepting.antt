@@ -1,0 +1,205 @@
+-- Which queries are accepted, and where the others are refused, by the steps that stand in them.
+use mathlib.Core.Path.{_≡_, refl, sym, ap, _∙_, subst}
+use mathlib.Core.Logic.{_⊎_, inl, inr}
+use mathlib.Core.List.{List, [], _∷_, _++_}
+use mathlib.Core.Option.{Option, none, some}
+use mathlib.Core.Bool.{Bool, true, false, cond, _&&_}
+use Prim.Native.Nat.{ℕ, zero, suc, _+_, _<_, _≤_}
+use native.Mathlib.Omega.{arith}
+use borrow.Author.Tests.{eq-eqb, ne-eqb, eqb-true, eqb-false}
+use lib.Dec.{eqb, leb}
+use lib.ListN.{length}
+use Rattle.refusal.specs.MeaningAnswer.{Answer, done, refused}
+use Rattle.sheet.specs.MeaningName.{Name, isName}
+use Rattle.sheet.specs.MeaningSheet.{tagOf, endOf, valueOf}
+use Rattle.sheet.proofs.Choosing.{either, clash, both}
+use Rattle.scope.specs.MeaningScope.{ScopeType, Step, Scope, Path, most-steps}
+use Rattle.scope.specs.MeaningQuery.{nameAt, stop, kindFor, stepOf, stepAt, Taken, oneMore, stepsAt, malformed, scopeQuery, pathFrom, pathOf, pathQuery}
+use Rattle.scope.specs.Claims.{Stand, Whole, Fails}
+use Rattle.scope.specs.Claims.Stand.{here, then}
+use Rattle.scope.specs.Claims.Fails.{bad, surplus, missing}
+use Rattle.scope.proofs.Standing.{name-ends}
+use Rattle.scope.proofs.Reaching.{StepLies, step-lies}
+use Rattle.scope.proofs.Routes.{few-steps, none-at-end, from-last}
+
+-- ---- a step ends where its field does
+
+abbrev NameEnds : ℕ → Option Name → Type 0
+NameEnds e none = Unit {0}
+NameEnds e (some x) = stop x ≡ e
+
+abbrev StepEnds : ℕ → Option Step → Type 0
+StepEnds e none = Unit {0}
+StepEnds e (some x) = stop (x .name) ≡ e
+
+by-kind : (e : ℕ) (k : Option ScopeType) (m : Option Name) → NameEnds e m → StepEnds e (stepOf k m)
+by-kind e none m l = tt
+by-kind e (some k) none l = tt
+by-kind e (some k) (some x) l = l
+
+by-name : (q : List ℕ) (at : ℕ) → NameEnds (endOf q at) (nameAt q at)
+unfolding nameAt
+by-name q at = either (NameEnds (endOf q at)) (leb (endOf q at) (length q) && isName (valueOf q at)) _ none (λ h. name-ends q at (both (leb (endOf q at) (length q)) (isName (valueOf q at)) h .0)) (λ _. tt)
+
+step-ends : (q : List ℕ) (at : ℕ) (x : Step) → stepAt q at ≡ some x → stop (x .name) ≡ endOf q at
+unfolding stepAt
+step-ends q at x e = subst (StepEnds (endOf q at)) e (by-kind (endOf q at) (kindFor (tagOf q at)) (nameAt q at) (by-name q at))
+
+-- ---- the steps that are taken stand there, and no more could be
+
+taken-stand : (k : ℕ) (q : List ℕ) (at : ℕ) → Stand q at (stepsAt k q at .steps) (stepsAt k q at .after)
+unfolding stepsAt
+taken-stand zero q at = here
+taken-stand (suc k) q at = go (taken-stand k q) (stepAt q at) refl
+  where
+    go : ((b : ℕ) → Stand q b (stepsAt k q b .steps) (stepsAt k q b .after)) → (m : Option Step) → stepAt q at ≡ m → Stand q at (oneMore m at (stepsAt k q) .steps) (oneMore m at (stepsAt k q) .after)
+    go next none e = here
+    go next (some x) e = then e (subst (λ (b : ℕ). Stand q b (stepsAt k q (stop (x .name)) .steps) (stepsAt k q (stop (x .name)) .after)) (step-ends q at x e) (next (stop (x .name))))
+
+-- all that may come have come, or none stands there
+abbrev Ended : ℕ → List ℕ → List Step → ℕ → Type 0
+Ended k q xs e = (length xs ≡ k) ⊎ ((length xs < k) × (stepAt q e ≡ none))
+
+ended-on : (k : ℕ) (q : List ℕ) (x : Step) (xs : List Step) (e : ℕ) → Ended k q xs e → Ended (suc k) q (x ∷ xs) e
+ended-on k q x xs e (inl l) = inl (ap suc l)
+ended-on k q x xs e (inr f) = inr (omega (arith, f .0), f .1)
+
+taken-ended : (k : ℕ) (q : List ℕ) (at : ℕ) → Ended k q (stepsAt k q at .steps) (stepsAt k q at .after)
+unfolding stepsAt
+taken-ended zero q at = inl refl
+taken-ended (suc k) q at = go (taken-ended k q) (stepAt q at) refl
+  where
+    go : ((b : ℕ) → Ended k q (stepsAt k q b .steps) (stepsAt k q b .after)) → (m : Option Step) → stepAt q at ≡ m → Ended (suc k) q (oneMore m at (stepsAt k q) .steps) (oneMore m at (stepsAt k q) .after)
+    go next none e = inr (omega arith, e)
+    go next (some x) e = ended-on k q x (stepsAt k q (stop (x .name)) .steps) (stepsAt k q (stop (x .name)) .after) (next (stop (x .name)))
+
+taken-inside : (k : ℕ) (q : List ℕ) (at : ℕ) → at ≤ length q → stepsAt k q at .after ≤ length q
+unfolding stepsAt
+taken-inside zero q at h = h
+taken-inside (suc k) q at h = go (taken-inside k q) (stepAt q at) (step-lies q at)
+  where
+    go : ((b : ℕ) → b ≤ length q → stepsAt k q b .after ≤ length q) → (m : Option Step) → StepLies q m → oneMore m at (stepsAt k q) .after ≤ length q
+    go next none l = h
+    go next (some x) l = next (stop (x .name)) (l .within)
+
+-- and what stands there, and ends so, is taken
+stand-taken : (k : ℕ) (q : List ℕ) (at : ℕ) (xs : List Step) (e : ℕ) → Stand q at xs e → Ended k q xs e → stepsAt k q at ≡ record { steps = xs; after = e }
+unfolding stepsAt
+stand-taken zero q at xs e here f = refl
+stand-taken zero q at xs e (then m s) (inl l) = absurd (let z : ⊥ = omega (arith, l) in z)
+stand-taken zero q at xs e (then m s) (inr f) = absurd (let z : ⊥ = omega (arith, f .0) in z)
+stand-taken (suc k) q at xs e here (inl l) = absurd (let z : ⊥ = omega (arith, l) in z)
+stand-taken (suc k) q at xs e here (inr f) = rw (f .1) refl
+stand-taken (suc k) q at (x ∷ xs) e (then m s) f = rw (m, step-ends q at x m, stand-taken k q (endOf q at) xs e s (less f)) refl
+  where
+    less : Ended (suc k) q (x ∷ xs) e → Ended k q xs e
+    less (inl l) = inl (omega (arith, l))
+    less (inr g) = inr (omega (arith, g .0), g .1)
+
+whole-taken : (k : ℕ) (q : List ℕ) (xs : List Step) → Stand q 0 xs (length q) → length xs ≤ k → stepsAt k q 0 ≡ record { steps = xs; after = length q }
+whole-taken k q xs s h = stand-taken k q 0 xs (length q) s (go (eqb (length xs) k) refl)
+  where
+    go : (b : Bool) → eqb (length xs) k ≡ b → Ended k q xs (length q)
+    go true e = inl (eqb-true (length xs) k e)
+    go false e = let d = eqb-false (length xs) k e in inr (omega (arith, d), none-at-end q)
+
+-- ---- where the steps end before the query does
+
+fails-after : (least k : ℕ) (q : List ℕ) → (stepsAt k q 0 .after ≡ length q → ⊥) → Fails least k q (stepsAt k q 0 .after)
+fails-after least k q d = go (taken-ended k q 0)
+  where
+    inside : stepsAt k q 0 .after < length q
+    inside = let h = taken-inside k q 0 (omega arith) in omega (arith, h, d)
+
+    go : Ended k q (stepsAt k q 0 .steps) (stepsAt k q 0 .after) → Fails least k q (stepsAt k q 0 .after)
+    go (inl l) = surplus (taken-stand k q 0) l inside
+    go (inr f) = bad (taken-stand k q 0) (f .0) inside (f .1)
+
+refused-at : {A : Type 0} (p n at : ℕ) → _≡_ {A = Answer A} (refused 15 p) (refused n at) → (n ≡ 15) × (p ≡ at)
+refused-at p n at e = (cc, cc)
+
+-- ---- a scope query
+
+pub scope-done : (q : List ℕ) (xs : Scope) → scopeQuery q ≡ done xs → Whole 0 3 q xs
+unfolding scopeQuery
+scope-done q xs = go (eqb (stepsAt most-steps q 0 .after) (length q)) refl
+  where
+    go : (b : Bool) → eqb (stepsAt most-steps q 0 .after) (length q) ≡ b → cond b (done (stepsAt most-steps q 0 .steps)) (malformed (stepsAt most-steps q 0 .after)) ≡ done xs → Whole 0 3 q xs
+    go true e z =
+        let u : stepsAt most-steps q 0 .steps ≡ xs = cc in
+        let v = eqb-true (stepsAt most-steps q 0 .after) (length q) e in
+        (rw (u, v) at (taken-stand most-steps q 0), omega arith, rw u at (few-steps most-steps q 0))
+    go false e z = clash (cc)
+
+pub whole-scope : (q : List ℕ) (xs : Scope) → Whole 0 3 q xs → scopeQuery q ≡ done xs
+unfolding scopeQuery
+whole-scope q xs w = rw (whole-taken most-steps q xs (w .0) (w .2), eq-eqb (length q) (length q) refl) refl
+
+pub scope-refused : (q : List ℕ) (n at : ℕ) → scopeQuery q ≡ refused n at → (n ≡ 15) × Fails 0 3 q at
+unfolding scopeQuery
+scope-refused q n at = go (eqb (stepsAt most-steps q 0 .after) (length q)) refl
+  where
+    go : (b : Bool) → eqb (stepsAt most-steps q 0 .after) (length q) ≡ b → cond b (done (stepsAt most-steps q 0 .steps)) (malformed (stepsAt most-steps q 0 .after)) ≡ refused n at → (n ≡ 15) × Fails 0 3 q at
+    go true e z = clash (cc)
+    go false e z = let r = refused-at (stepsAt most-steps q 0 .after) n at z in (r .0, subst (Fails 0 3 q) (r .1) (fails-after 0 most-steps q (eqb-false (stepsAt most-steps q 0 .after) (length q) e)))
+
+pub fails-scope : (q : List ℕ) (at : ℕ) → Fails 0 3 q at → scopeQuery q ≡ refused 15 at
+unfolding scopeQuery
+fails-scope q at (bad {xs = xs} s l h m) = rw (stand-taken most-steps q 0 xs at s (inr (l, m)), ne-eqb at (length q) (λ e. absurd (let z : ⊥ = omega (arith, e, h) in z))) refl
+fails-scope q at (surplus {xs = xs} s l h) = rw (stand-taken most-steps q 0 xs at s (inl l), ne-eqb at (length q) (λ e. absurd (let z : ⊥ = omega (arith, e, h) in z))) refl
+fails-scope q at (missing s l) = absurd (let z : ⊥ = omega (arith, l) in z)
+
+-- ---- a path query
+
+path-steps : (x : Step) (xs : List Step) → pathFrom x xs .scope ++ (pathFrom x xs .item ∷ []) ≡ x ∷ xs
+unfolding pathFrom
+path-steps x [] = refl
+path-steps x (y ∷ ys) = ap (λ (l : List Step). x ∷ l) (path-steps y ys)
+
+path-of : (q : List ℕ) (xs : List Step) (p : Path) → Stand q 0 xs (length q) → length xs ≤ 4 → pathOf xs (length q) ≡ done p → Whole 1 4 q (p .scope ++ (p .item ∷ []))
+unfolding pathOf
+path-of q [] p s h z = clash (cc)
+path-of q (x ∷ xs) p s h z =
+    let u : pathFrom x xs ≡ p = cc in
+    let v : p .scope ++ (p .item ∷ []) ≡ x ∷ xs = rw (← u) (path-steps x xs) in
+    rw v (s, omega arith, h)
+
+pub path-done : (q : List ℕ) (p : Path) → pathQuery q ≡ done p → Whole 1 4 q (p .scope ++ (p .item ∷ []))
+unfolding pathQuery
+path-done q p = go (eqb (stepsAt (suc most-steps) q 0 .after) (length q)) refl
+  where
+    go : (b : Bool) → eqb (stepsAt (suc most-steps) q 0 .after) (length q) ≡ b → cond b (pathOf (stepsAt (suc most-steps) q 0 .steps) (length q)) (malformed (stepsAt (suc most-steps) q 0 .after)) ≡ done p → Whole 1 4 q (p .scope ++ (p .item ∷ []))
+    go true e z =
+        let v = eqb-true (stepsAt (suc most-steps) q 0 .after) (length q) e in
+        path-of q (stepsAt (suc most-steps) q 0 .steps) p (rw v at (taken-stand (suc most-steps) q 0)) (few-steps (suc most-steps) q 0) z
+    go false e z = clash (cc)
+
+pub whole-path : (q : List ℕ) (p : Path) → Whole 1 4 q (p .scope ++ (p .item ∷ [])) → pathQuery q ≡ done p
+unfolding pathQuery
+whole-path q p w = rw (whole-taken (suc most-steps) q (p .scope ++ (p .item ∷ [])) (w .0) (w .2), eq-eqb (length q) (length q) refl) (from-last (p .scope) (p .item) (length q))
+
+path-missing : (q : List ℕ) (xs : List Step) (n at : ℕ) → Stand q 0 xs (length q) → pathOf xs (length q) ≡ refused n at → (n ≡ 15) × Fails 1 4 q at
+unfolding pathOf
+path-missing q [] n at s z = let r = refused-at (length q) n at z in (r .0, subst (Fails 1 4 q) (r .1) (missing s (omega arith)))
+path-missing q (x ∷ xs) n at s z = clash (cc)
+
+pub path-refused : (q : List ℕ) (n at : ℕ) → pathQuery q ≡ refused n at → (n ≡ 15) × Fails 1 4 q at
+unfolding pathQuery
+path-refused q n at = go (eqb (stepsAt (suc most-steps) q 0 .after) (length q)) refl
+  where
+    go : (b : Bool) → eqb (stepsAt (suc most-steps) q 0 .after) (length q) ≡ b → cond b (pathOf (stepsAt (suc most-steps) q 0 .steps) (length q)) (malformed (stepsAt (suc most-steps) q 0 .after)) ≡ refused n at → (n ≡ 15) × Fails 1 4 q at
+    go true e z =
+        let v = eqb-true (stepsAt (suc most-steps) q 0 .after) (length q) e in
+        path-missing q (stepsAt (suc most-steps) q 0 .steps) n at (rw v at (taken-stand (suc most-steps) q 0)) z
+    go false e z = let r = refused-at (stepsAt (suc most-steps) q 0 .after) n at z in (r .0, subst (Fails 1 4 q) (r .1) (fails-after 1 (suc most-steps) q (eqb-false (stepsAt (suc most-steps) q 0 .after) (length q) e)))
+
+no-steps-left : (xs : List Step) → length xs < 1 → (e : ℕ) → pathOf xs e ≡ refused 15 e
+unfolding pathOf
+no-steps-left [] l e = refl
+no-steps-left (x ∷ xs) l e = absurd (let z : ⊥ = omega arith in z)
+
+pub fails-path : (q : List ℕ) (at : ℕ) → Fails 1 4 q at → pathQuery q ≡ refused 15 at
+unfolding pathQuery
+fails-path q at (bad {xs = xs} s l h m) = rw (stand-taken (suc most-steps) q 0 xs at s (inr (l, m)), ne-eqb at (length q) (λ e. absurd (let z : ⊥ = omega (arith, e, h) in z))) refl
+fails-path q at (surplus {xs = xs} s l h) = rw (stand-taken (suc most-steps) q 0 xs at s (inl l), ne-eqb at (length q) (λ e. absurd (let z : ⊥ = omega (arith, e, h) in z))) refl
+fails-path q at (missing {xs = xs} s l) = rw (whole-taken (suc most-steps) q xs s (omega (arith, l)), eq-eqb (length q) (length q) refl) (no-steps-left xs l (length q))

@@ -1,0 +1,9 @@
+pub mod Equality
+pub mod Holding
+pub mod Standing
+pub mod Reaching
+pub mod Routes
+pub mod Precedence
+pub mod Beginnings
+pub mod Accepting
+pub mod Proved

@@ -1,0 +1,192 @@
+-- The steps that a query begins with, and so the scope and the name that it asks for, or the place of its refusal.
+use mathlib.Core.Path.{_≡_, refl, sym, ap, _∙_, subst}
+use mathlib.Core.List.{List, [], _∷_}
+use mathlib.Core.Option.{Option, none, some}
+use mathlib.Core.Bool.{Bool, true, false, cond, _&&_}
+use Prim.Native.Nat.{ℕ, zero, suc, _+_, _<_, _≤_}
+use native.Mathlib.Omega.{arith}
+use borrow.Author.Tests.{eq-eqb, ne-eqb, leb-true}
+use lib.Dec.{eqb, leb}
+use lib.ListN.{length, take, drop, length-take, length-drop}
+use Rattle.refusal.specs.declared.Refusal.{Refusal}
+use Rattle.sheet.specs.MeaningName.{Name, isName}
+use Rattle.sheet.specs.MeaningSheet.{tagOf, sizeOf, endOf, valueOf}
+use Rattle.sheet.proofs.Choosing.{either, clash, both}
+use Rattle.scope.specs.MeaningScope as meaning
+use Rattle.scope.specs.MeaningScope.{Step, most-steps}
+use Rattle.scope.specs.MeaningQuery.{nameAt, stop, kindFor, stepOf, stepAt, wordAt, Taken, oneMore, stepsAt, scopeQuery, asked, resolveQuery}
+use Rattle.scope.specs.MirrorScope.{rungOf, noRung, scope-0, scopeOf}
+use Rattle.scope.specs.MirrorQuery.{itemOf, wordOut, reachedOf, noScope, askedScopeOf, noName, askedNameOf}
+use Rattle.scope.specs.declared.Rung.{Rung}
+use Rattle.scope.specs.declared.Scope.{Scope}
+use Rattle.scope.specs.declared.Item.{Item}
+use Rattle.scope.specs.declared.Item.the-variants.{Found, Nothing}
+use Rattle.scope.specs.declared.Reached.{Reached}
+use Rattle.scope.specs.declared.Verdict.{Verdict}
+use Rattle.scope.specs.declared.Verdict.the-variants.{Done, Refused}
+use Rattle.scope.specs.declared.AskedScope.{AskedScope}
+use Rattle.scope.specs.declared.AskedName.{AskedName}
+use Rattle.scope.proofs.Standing.{name-ends}
+
+-- ---- what stands in a query lies in its bytes
+
+-- the bytes of a name are those at its place
+pub record Lies (q : List ℕ) (x : Name) : Type 0 where
+  pub within : stop x ≤ length q
+  pub there : take (length (x .bytes)) (drop (x .at) q) ≡ x .bytes
+
+abbrev NameLies : List ℕ → Option Name → Type 0
+NameLies q none = Unit {0}
+NameLies q (some x) = Lies q x
+
+abbrev pub StepLies : List ℕ → Option Step → Type 0
+StepLies q none = Unit {0}
+StepLies q (some x) = Lies q (x .name)
+
+name-lies : (q : List ℕ) (at : ℕ) → NameLies q (nameAt q at)
+unfolding nameAt
+name-lies q at = either (NameLies q) (leb (endOf q at) (length q) && isName (valueOf q at)) _ none there (λ _. tt)
+  where
+    there : leb (endOf q at) (length q) && isName (valueOf q at) ≡ true → Lies q (record { at = at + 3; bytes = valueOf q at })
+    there h =
+        let b = both (leb (endOf q at) (length q)) (isName (valueOf q at)) h in
+        let l = leb-true (endOf q at) (length q) (b .0) in
+        let e = name-ends q at (b .0) in
+        let n : length (valueOf q at) ≡ sizeOf q at = omega (arith, e) in
+        record { within = rw e l; there = rw n refl }
+
+step-of-lies : (q : List ℕ) (k : Option meaning.ScopeType) (m : Option Name) → NameLies q m → StepLies q (stepOf k m)
+step-of-lies q none m l = tt
+step-of-lies q (some k) none l = tt
+step-of-lies q (some k) (some x) l = l
+
+pub step-lies : (q : List ℕ) (at : ℕ) → StepLies q (stepAt q at)
+unfolding stepAt
+step-lies q at = step-of-lies q (kindFor (tagOf q at)) (nameAt q at) (name-lies q at)
+
+-- ---- the step behind a found item
+
+pub behind : (m : Option Step) (o : Item) (r : Rung) → o ≡ itemOf m → o ≡ Found r → (x : Step) × (m ≡ some x) × (rungOf x ≡ r)
+unfolding itemOf
+behind none o r e f = let g : Nothing ≡ Found r = sym e ∙ f in clash (cc)
+behind (some x) o r e f = let g : Found (rungOf x) ≡ Found r = sym e ∙ f in (x, refl, cc)
+
+pub nobody : (m : Option Step) (o : Item) → o ≡ itemOf m → o ≡ Nothing → m ≡ none
+unfolding itemOf
+nobody none o e f = refl
+nobody (some x) o e f = let g : Nothing ≡ Found (rungOf x) = sym f ∙ e in clash (cc)
+
+pub stop-rung : (x : Step) (r : Rung) → rungOf x ≡ r → stop (x .name) ≡ r .stop
+unfolding rungOf
+stop-rung x r k = ap (λ (r : Rung). r .stop) k
+
+module _ (q : List ℕ) (at : ℕ) (o : Item) (e : o ≡ itemOf (stepAt q at)) (r : Rung) (f : o ≡ Found r) where
+  pub found-inside : r .stop ≤ length q
+  found-inside =
+      let b = behind (stepAt q at) o r e f in
+      let l : StepLies q (some (b .0)) = subst (StepLies q) (b .1) (step-lies q at) in
+      let w = l .within in
+      let s = stop-rung (b .0) r (b .2) in
+      omega (arith, w, s)
+
+-- ---- x, y and w stand one after the other
+
+module _ (q : List ℕ) (n : Rung) (z : n ≡ noRung) (x : Step) (r1 : Rung) (m1 : stepAt q 0 ≡ some x) (k1 : rungOf x ≡ r1) where
+  got-1 : stepAt q (r1 .stop) ≡ none → record { scope = record { count = 1; one = r1; two = n; three = n }; at = r1 .stop } ≡ reachedOf (stepsAt most-steps q 0)
+  unfolding stepsAt reachedOf scopeOf
+  got-1 f = rw (m1, stop-rung x r1 k1, f, z, k1) refl
+
+  module _ (y : Step) (r2 : Rung) (m2 : stepAt q (r1 .stop) ≡ some y) (k2 : rungOf y ≡ r2) where
+    got-2 : stepAt q (r2 .stop) ≡ none → record { scope = record { count = 2; one = r1; two = r2; three = n }; at = r2 .stop } ≡ reachedOf (stepsAt most-steps q 0)
+    unfolding stepsAt reachedOf scopeOf
+    got-2 f = rw (m1, stop-rung x r1 k1, m2, stop-rung y r2 k2, f, z, k1, k2) refl
+
+    got-3 : (w : Step) (r3 : Rung) → stepAt q (r2 .stop) ≡ some w → rungOf w ≡ r3 → record { scope = record { count = 3; one = r1; two = r2; three = r3 }; at = r3 .stop } ≡ reachedOf (stepsAt most-steps q 0)
+    unfolding stepsAt reachedOf scopeOf
+    got-3 w r3 m3 k3 = rw (m1, stop-rung x r1 k1, m2, stop-rung y r2 k2, m3, stop-rung w r3 k3, k1, k2, k3) refl
+
+module _ (q : List ℕ) (o1 : Item) (e1 : o1 ≡ itemOf (stepAt q 0)) where
+  pub steps-0 : o1 ≡ Nothing → (s : Scope) → s ≡ scope-0 → record { scope = s; at = 0 } ≡ reachedOf (stepsAt most-steps q 0)
+  unfolding stepsAt reachedOf scopeOf
+  steps-0 f s k = rw (nobody (stepAt q 0) o1 e1 f, k) refl
+
+  module _ (n : Rung) (z : n ≡ noRung) (r1 : Rung) (f1 : o1 ≡ Found r1) (o2 : Item) (e2 : o2 ≡ itemOf (stepAt q (r1 .stop))) where
+    pub steps-1 : o2 ≡ Nothing → record { scope = record { count = 1; one = r1; two = n; three = n }; at = r1 .stop } ≡ reachedOf (stepsAt most-steps q 0)
+    steps-1 f = let b = behind (stepAt q 0) o1 r1 e1 f1 in got-1 q n z (b .0) r1 (b .1) (b .2) (nobody (stepAt q (r1 .stop)) o2 e2 f)
+
+    module _ (r2 : Rung) (f2 : o2 ≡ Found r2) (o3 : Item) (e3 : o3 ≡ itemOf (stepAt q (r2 .stop))) where
+      pub steps-2 : o3 ≡ Nothing → record { scope = record { count = 2; one = r1; two = r2; three = n }; at = r2 .stop } ≡ reachedOf (stepsAt most-steps q 0)
+      steps-2 f =
+          let b = behind (stepAt q 0) o1 r1 e1 f1 in
+          let c = behind (stepAt q (r1 .stop)) o2 r2 e2 f2 in
+          got-2 q n z (b .0) r1 (b .1) (b .2) (c .0) r2 (c .1) (c .2) (nobody (stepAt q (r2 .stop)) o3 e3 f)
+
+      pub steps-3 : (r3 : Rung) → o3 ≡ Found r3 → record { scope = record { count = 3; one = r1; two = r2; three = r3 }; at = r3 .stop } ≡ reachedOf (stepsAt most-steps q 0)
+      steps-3 r3 f3 =
+          let b = behind (stepAt q 0) o1 r1 e1 f1 in
+          let c = behind (stepAt q (r1 .stop)) o2 r2 e2 f2 in
+          let d = behind (stepAt q (r2 .stop)) o3 r3 e3 f3 in
+          got-3 q n z (b .0) r1 (b .1) (b .2) (c .0) r2 (c .1) (c .2) (d .0) r3 (d .1) (d .2)
+
+pub ruleset stepping = (steps-0, steps-1, steps-2, steps-3, found-inside)
+
+-- ---- a scope query
+
+module _ (w : Refusal) (p : ℕ) (e : w ≡ record { number = 15; place = p }) (s : Scope) (k : s ≡ scope-0) where
+  pub scope-zeros : _≡_ {A = AskedScope} (record { verdict = Refused w; scope = s }) (noScope 15 p)
+  scope-zeros = rw (e, k) refl
+
+  pub name-zeros : _≡_ {A = AskedName} (record { verdict = Refused w; scope = s; start = 0; stop = 0 }) (noName 15 p)
+  name-zeros = rw (e, k) refl
+
+module _ (q : List ℕ) (t : Reached) (h : t ≡ reachedOf (stepsAt most-steps q 0)) where
+  pub at-after : stepsAt most-steps q 0 .after ≡ t .at
+  unfolding reachedOf
+  at-after = ap (λ (r : Reached). r .at) (sym h)
+
+  pub scope-after : scopeOf (stepsAt most-steps q 0 .steps) ≡ t .scope
+  unfolding reachedOf
+  scope-after = ap (λ (r : Reached). r .scope) (sym h)
+
+  pub scope-whole : t .at ≡ length q → record { verdict = Done; scope = t .scope } ≡ askedScopeOf (scopeQuery q)
+  unfolding scopeQuery askedScopeOf
+  scope-whole e = sym (rw (at-after, eq-eqb (t .at) (length q) e, scope-after) refl)
+
+  pub scope-more : (t .at ≡ length q → ⊥) → (r : AskedScope) → r ≡ noScope 15 (t .at) → r ≡ askedScopeOf (scopeQuery q)
+  unfolding scopeQuery askedScopeOf
+  scope-more d r k = k ∙ sym (rw (at-after, ne-eqb (t .at) (length q) d) refl)
+
+-- ---- a `resolve` query
+
+word-none : (m : Option Name) (o : Item) → o ≡ wordOut m → o ≡ Nothing → m ≡ none
+unfolding wordOut
+word-none none o e f = refl
+word-none (some x) o e f = let g : Nothing ≡ Found (record { kind = noRung .kind; start = x .at; stop = stop x }) = sym f ∙ e in clash (cc)
+
+word-some : (m : Option Name) (o : Item) (r : Rung) → o ≡ wordOut m → o ≡ Found r → (x : Name) × (m ≡ some x) × (x .at ≡ r .start) × (stop x ≡ r .stop)
+unfolding wordOut
+word-some none o r e f = let g : Nothing ≡ Found r = sym e ∙ f in clash (cc)
+word-some (some x) o r e f =
+    let g : Found (record { kind = noRung .kind; start = x .at; stop = stop x }) ≡ Found r = sym e ∙ f in
+    let k : record { kind = noRung .kind; start = x .at; stop = stop x } ≡ r = cc in
+    (x, refl, ap (λ (r : Rung). r .start) k, ap (λ (r : Rung). r .stop) k)
+
+module _ (q : List ℕ) (t : Reached) (h : t ≡ reachedOf (stepsAt most-steps q 0)) (o : Item) (e : o ≡ wordOut (wordAt q (t .at))) where
+  pub ask-none : o ≡ Nothing → (r : AskedName) → r ≡ noName 15 (t .at) → r ≡ askedNameOf (resolveQuery q)
+  unfolding resolveQuery asked askedNameOf
+  ask-none f r k = k ∙ rw (at-after q t h, word-none (wordAt q (t .at)) o e f) refl
+
+  module _ (x : Rung) (f : o ≡ Found x) where
+    pub ask-more : (x .stop ≡ length q → ⊥) → (r : AskedName) → r ≡ noName 15 (x .stop) → r ≡ askedNameOf (resolveQuery q)
+    unfolding resolveQuery asked askedNameOf
+    ask-more n r k =
+        let w = word-some (wordAt q (t .at)) o x e f in
+        k ∙ rw (at-after q t h, w .1, w .3, ne-eqb (x .stop) (length q) n) refl
+
+    pub ask-whole : x .stop ≡ length q → record { verdict = Done; scope = t .scope; start = x .start; stop = x .stop } ≡ askedNameOf (resolveQuery q)
+    unfolding resolveQuery asked askedNameOf
+    ask-whole n =
+        let w = word-some (wordAt q (t .at)) o x e f in
+        rw (at-after q t h, w .1, w .3, eq-eqb (x .stop) (length q) n, w .3, w .2, scope-after q t h) refl
+
+pub ruleset reaching = (scope-zeros, name-zeros, scope-whole, scope-more, ask-none, ask-more, ask-whole)

@@ -1,0 +1,93 @@
+-- What is proved, to be read without the proofs: each claim is a type, and proofs/Proved.antt has a member of each.
+use Prim.Native.Nat.{ℕ, _<_, _≤_}
+use mathlib.Core.Path.{_≡_}
+use mathlib.Core.Logic.{_↔_}
+use mathlib.Core.List.{List, [], _∷_, _++_}
+use mathlib.Core.Option.{none, some}
+use mathlib.Core.Bool.{true}
+use lib.ListN.{length}
+use Rattle.refusal.specs.MeaningAnswer.{done, refused}
+use Rattle.sheet.specs.MeaningReading.{Reading}
+use Rattle.sheet.specs.MeaningSheet.{endOf}
+use Rattle.scope.specs.MeaningNames.{sameName}
+use Rattle.scope.specs.MeaningScope.{Step, Scope, Path, sameScope, compared}
+use Rattle.scope.specs.MeaningScope.Comparison.{less, equal, greater}
+use Rattle.scope.specs.MeaningQuery.{stepAt, scopeQuery, pathQuery}
+use Rattle.scope.specs.Told.{toldCompared}
+use Rattle.scope.specs.Promises.{Promise-order}
+use Rattle.scope.specs.declared.Compared.{Compared}
+
+-- ---- equal names: an equivalence, under every reading
+
+abbrev pub Names-reflexive : Type 0
+Names-reflexive = (rd : Reading) (a : List ℕ) → sameName rd a a ≡ true
+
+abbrev pub Names-symmetric : Type 0
+Names-symmetric = (rd : Reading) (a b : List ℕ) → sameName rd a b ≡ true → sameName rd b a ≡ true
+
+abbrev pub Names-transitive : Type 0
+Names-transitive = (rd : Reading) (a b c : List ℕ) → sameName rd a b ≡ true → sameName rd b c ≡ true → sameName rd a c ≡ true
+
+-- ---- the partial order
+
+abbrev pub Order-reflexive : Type 0
+Order-reflexive = (rd : Reading) (a : Scope) → compared rd a a ≡ equal
+
+-- two scopes compare as equal exactly where they are equal
+abbrev pub Equal-exactly : Type 0
+Equal-exactly = (rd : Reading) (a b : Scope) → (compared rd a b ≡ equal) ↔ (sameScope rd a b ≡ true)
+
+-- b is longer and starts with a: it is some scope equal to a, and one step at least behind it
+abbrev pub Begins : Reading → (a b : Scope) → Type 0
+Begins rd a b = (front : Scope) × (next : Step) × (rest : Scope) × (b ≡ front ++ (next ∷ rest)) × (sameScope rd a front ≡ true)
+
+-- "A scope is greater than every longer scope that starts with it", and than no other
+abbrev pub Greater-exactly : Type 0
+Greater-exactly = (rd : Reading) (a b : Scope) → (compared rd a b ≡ greater) ↔ Begins rd a b
+
+abbrev pub Less-exactly : Type 0
+Less-exactly = (rd : Reading) (a b : Scope) → (compared rd a b ≡ less) ↔ Begins rd b a
+
+-- ---- of every answer that `order` can give
+
+-- different answers say different things
+abbrev pub Told-injective : Type 0
+Told-injective = (r r' : Compared) → toldCompared r ≡ toldCompared r' → r ≡ r'
+
+-- two queries allow one outcome
+abbrev pub OrderOnce : Type 0
+OrderOnce = (rd : Reading) (left right : List ℕ) (r r' : Compared) → Promise-order rd left right r → Promise-order rd left right r' → r ≡ r'
+
+-- ---- queries: which are accepted, and where the others are refused
+
+-- these steps stand one after another, from one place up to another
+pub data Stand (q : List ℕ) : ℕ → List Step → ℕ → Type 0 where
+  here : {at : ℕ} → Stand q at [] at
+  then : {at end : ℕ} {x : Step} {xs : List Step} → stepAt q at ≡ some x → Stand q (endOf q at) xs end → Stand q at (x ∷ xs) end
+
+-- the query is these steps and nothing else, and they are as many as there must and may be
+abbrev pub Whole : (least most : ℕ) → List ℕ → List Step → Type 0
+Whole least most q xs = Stand q 0 xs (length q) × (least ≤ length xs) × (length xs ≤ most)
+
+-- where that fails first
+pub data Fails (least most : ℕ) (q : List ℕ) : ℕ → Type 0 where
+  -- "first bad .. field"
+  bad : {at : ℕ} {xs : List Step} → Stand q 0 xs at → length xs < most → at < length q → stepAt q at ≡ none → Fails least most q at
+  -- "first .. surplus field"
+  surplus : {at : ℕ} {xs : List Step} → Stand q 0 xs at → length xs ≡ most → at < length q → Fails least most q at
+  -- "the query's end where one is missing"
+  missing : {xs : List Step} → Stand q 0 xs (length q) → length xs < least → Fails least most q (length q)
+
+-- "a scope query has 0 to 3"
+abbrev pub Scope-accepts : Type 0
+Scope-accepts = (q : List ℕ) (xs : Scope) → (scopeQuery q ≡ done xs) ↔ Whole 0 3 q xs
+
+abbrev pub Scope-refuses : Type 0
+Scope-refuses = (q : List ℕ) (n at : ℕ) → (scopeQuery q ≡ refused n at) ↔ ((n ≡ 15) × Fails 0 3 q at)
+
+-- "A path query is 1 to 4 fields". "The last field of a path is the item."
+abbrev pub Path-accepts : Type 0
+Path-accepts = (q : List ℕ) (p : Path) → (pathQuery q ≡ done p) ↔ Whole 1 4 q (p .scope ++ (p .item ∷ []))
+
+abbrev pub Path-refuses : Type 0
+Path-refuses = (q : List ℕ) (n at : ℕ) → (pathQuery q ≡ refused n at) ↔ ((n ≡ 15) × Fails 1 4 q at)

@@ -1,0 +1,8 @@
+pub mod MeaningNames
+pub mod MeaningScope
+pub mod MeaningQuery
+pub mod Told
+pub mod Promises
+pub mod Claims
+pub mod MirrorScope
+pub mod MirrorQuery
