@@ -1,8 +1,8 @@
 -- Which scopes start which: the claims on the partial order, by induction on both.
-use mathlib.Core.Path.{_≡_, refl, sym, ap, _∙_}
+use mathlib.Core.Path.{_≡_, refl, ap, _∙_}
 use mathlib.Core.List.{List, [], _∷_, _++_}
-use mathlib.Core.Bool.{Bool, true, false, cond, _&&_}
-use Prim.Native.Nat.{ℕ, suc, _+_, _<_}
+use mathlib.Core.Bool.{Bool, true, false, cond}
+use Prim.Native.Nat.{suc, _+_}
 use native.Mathlib.Omega.{arith}
 use lib.ListN.{length, length-append}
 use Rattle.sheet.specs.MeaningReading.{Reading}
@@ -10,7 +10,7 @@ use Rattle.sheet.proofs.Choosing.{clash, both}
 use Rattle.scope.specs.MeaningScope.{Step, Scope, sameStep, sameScope, starts, Comparison, compared}
 use Rattle.scope.specs.MeaningScope.Comparison.{less, equal, greater, unordered}
 use Rattle.scope.specs.Claims.{Begins}
-use Rattle.scope.proofs.Equality.{two, step-sym, scope-refl, scope-sym}
+use Rattle.scope.proofs.Equality.{two, step-sym, scope-sym}
 use Rattle.scope.proofs.Precedence.{too-long}
 
 module _ (rd : Reading) where

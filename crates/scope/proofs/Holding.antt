@@ -1,17 +1,15 @@
 -- A scope in its struct: one step more, one less, the last one, and that these are what they are on lists of steps.
-use mathlib.Core.Path.{_≡_, refl, sym, ap, _∙_}
+use mathlib.Core.Path.{_≡_, refl}
 use mathlib.Core.List.{List, [], _∷_, _++_}
-use Prim.Native.Nat.{ℕ, suc, _<_, _≤_}
+use Prim.Native.Nat.{_<_, _≤_}
 use native.Mathlib.Omega.{arith}
 use borrow.Author.Tests.{eq-eqb, ne-eqb}
 use lib.ListN.{length}
 use Rattle.scope.specs.MeaningScope.{Step}
-use Rattle.scope.specs.MirrorScope.{rungOf, noRung, scope-0, scope-1, scope-2, scope-3, scopeOf, pushedOn, poppedFrom, lastOf}
+use Rattle.scope.specs.MirrorScope.{rungOf, noRung, scope-0, scopeOf, pushedOn, poppedFrom, lastOf}
 use Rattle.scope.specs.declared.Rung.{Rung}
 use Rattle.scope.specs.declared.Scope.{Scope}
-use Rattle.scope.specs.declared.Pushed.{Pushed}
 use Rattle.scope.specs.declared.Pushed.the-variants.{Onto, Full}
-use Rattle.scope.specs.declared.Popped.{Popped}
 use Rattle.scope.specs.declared.Popped.the-variants.{Outer, Root}
 
 module _ (n : Rung) (z : n ≡ noRung) where

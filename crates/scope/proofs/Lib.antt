@@ -7,3 +7,4 @@ pub mod Precedence
 pub mod Beginnings
 pub mod Accepting
 pub mod Proved
+pub mod SmallQueries

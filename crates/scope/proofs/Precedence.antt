@@ -1,17 +1,16 @@
 -- The partial order: a scope in its struct and its steps, which of two starts the other, and the question.
-use mathlib.Core.Path.{_≡_, refl, sym, ap, _∙_, subst}
-use mathlib.Core.List.{List, [], _∷_, _++_}
+use mathlib.Core.Path.{_≡_, refl, sym, ap, _∙_}
+use mathlib.Core.List.{List, [], _∷_}
 use mathlib.Core.Option.{Option, none, some}
-use mathlib.Core.Bool.{Bool, true, false, not, cond, _&&_}
+use mathlib.Core.Bool.{Bool, true, false, not, _&&_}
 use Prim.Native.Nat.{ℕ, zero, suc, _+_, _-_, _<_, _≤_}
 use native.Mathlib.Omega.{arith}
 use borrow.Author.Tests.{eq-eqb, ne-eqb, not-true, not-false}
 use lib.Dec.{eqb}
 use lib.ListN.{length, take, drop, length-take}
-use Rattle.refusal.specs.MeaningAnswer.{Answer, done, refused, _>>=_}
+use Rattle.refusal.specs.MeaningAnswer.{Answer, done, refused}
 use Rattle.refusal.specs.declared.Refusal.{Refusal}
 use Rattle.sheet.specs.MeaningReading.{Reading}
-use Rattle.sheet.specs.MeaningName.{Name}
 use Rattle.sheet.proofs.Choosing.{either, clash, and-false}
 use Rattle.scope.specs.MeaningNames.{sameName}
 use Rattle.scope.specs.MeaningScope as meaning
@@ -19,11 +18,10 @@ use Rattle.scope.specs.MeaningScope.{Step, placeOf, most-steps, sameStep
 use Rattle.scope.specs.MeaningQuery.{stop, stepAt, Taken, oneMore, stepsAt, scopeQuery, orderOf}
 use Rattle.scope.specs.Told.{toldKind, toldCompared}
 use Rattle.scope.specs.Promises.{Promise-order}
-use Rattle.scope.specs.MirrorScope.{kindIn, rungOf, noRung, scope-0, scopeOf, stepIn, stepsIn, Spans, Fits}
+use Rattle.scope.specs.MirrorScope.{kindIn, rungOf, noRung, scopeOf, stepIn, stepsIn, Spans, Fits}
 use Rattle.scope.specs.MirrorQuery.{askedScopeOf}
 use Rattle.scope.specs.declared.Rung.{Rung}
 use Rattle.scope.specs.declared.Scope.{Scope}
-use Rattle.scope.specs.declared.Verdict.{Verdict}
 use Rattle.scope.specs.declared.Verdict.the-variants.{Done, Refused}
 use Rattle.scope.specs.declared.AskedScope.{AskedScope}
 use Rattle.scope.specs.declared.Compared as code

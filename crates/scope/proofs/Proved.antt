@@ -1,18 +1,15 @@
 -- The claims of specs/Claims.antt.
 use mathlib.Core.Path.{_≡_, refl, sym, _∙_}
-use mathlib.Core.List.{List}
 use Prim.Native.Nat.{ℕ}
-use Rattle.refusal.specs.declared.Refusal.{Refusal}
 use Rattle.sheet.proofs.Choosing.{clash}
-use Rattle.scope.specs.MeaningQuery.{scopeQuery, pathQuery}
 use Rattle.scope.specs.Told.{toldCompared}
 use Rattle.scope.specs.Promises.{Promise-order}
-use Rattle.scope.specs.Claims.{Names-reflexive, Names-symmetric, Names-transitive, Order-reflexive, Equal-exactly, Greater-exactly, Less-exactly, Told-injective, OrderOnce, Scope-accepts, Scope-refuses, Path-accepts, Path-refuses}
-use Rattle.scope.specs.declared.Compared.{Compared}
+use Rattle.scope.specs.Claims.{Names-reflexive, Names-symmetric, Names-transitive, Order-reflexive, Equal-exactly, Greater-exactly, Less-exactly, Told-injective, OrderOnce, Scope-accepts, Scope-refuses, Path-accepts, Path-refuses, Resolve-accepts, Resolve-refuses, Push-appends, Push-refuses, Pop-drops}
 use Rattle.scope.specs.declared.Compared.the-variants.{Less, Equal, Greater, Unordered, Refused}
 use Rattle.scope.proofs.Equality.{name-refl, name-sym, name-trans, scope-refl}
 use Rattle.scope.proofs.Beginnings.{equal-same, same-equal, greater-begins, begins-greater, less-begins, begins-less}
-use Rattle.scope.proofs.Accepting.{scope-done, whole-scope, scope-refused, fails-scope, path-done, whole-path, path-refused, fails-path}
+use Rattle.scope.proofs.Accepting.{scope-done, whole-scope, scope-fails, fails-scope, path-done, whole-path, path-fails, fails-path, resolve-done, asks-resolve, resolve-fails, fails-resolve}
+use Rattle.scope.proofs.Holding.{push-appends, push-refused, pop-drops}
 
 pub names-reflexive : Names-reflexive
 names-reflexive = name-refl
@@ -74,10 +71,25 @@ pub scope-accepts : Scope-accepts
 scope-accepts q xs = (scope-done q xs, whole-scope q xs)
 
 pub scope-refuses : Scope-refuses
-scope-refuses q n at = (scope-refused q n at, λ f. rw (f .0) (fails-scope q at (f .1)))
+scope-refuses q n at = (scope-fails q n at, λ f. rw (f .0) (fails-scope q at (f .1)))
 
 pub path-accepts : Path-accepts
 path-accepts q p = (path-done q p, whole-path q p)
 
 pub path-refuses : Path-refuses
-path-refuses q n at = (path-refused q n at, λ f. rw (f .0) (fails-path q at (f .1)))
+path-refuses q n at = (path-fails q n at, λ f. rw (f .0) (fails-path q at (f .1)))
+
+pub resolve-accepts : Resolve-accepts
+resolve-accepts q a = (resolve-done q a, asks-resolve q a)
+
+pub resolve-refuses : Resolve-refuses
+resolve-refuses q n at = (resolve-fails q n at, λ f. rw (f .0) (fails-resolve q at (f .1)))
+
+pub pushing-appends : Push-appends
+pushing-appends = push-appends
+
+pub pushing-refuses : Push-refuses
+pushing-refuses = push-refused
+
+pub popping-drops : Pop-drops
+popping-drops = pop-drops

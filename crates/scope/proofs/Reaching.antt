@@ -1,20 +1,20 @@
 -- The steps that a query begins with, and so the scope and the name that it asks for, or the place of its refusal.
 use mathlib.Core.Path.{_≡_, refl, sym, ap, _∙_, subst}
-use mathlib.Core.List.{List, [], _∷_}
+use mathlib.Core.List.{List}
 use mathlib.Core.Option.{Option, none, some}
-use mathlib.Core.Bool.{Bool, true, false, cond, _&&_}
-use Prim.Native.Nat.{ℕ, zero, suc, _+_, _<_, _≤_}
+use mathlib.Core.Bool.{true, _&&_}
+use Prim.Native.Nat.{ℕ, _+_, _≤_}
 use native.Mathlib.Omega.{arith}
 use borrow.Author.Tests.{eq-eqb, ne-eqb, leb-true}
-use lib.Dec.{eqb, leb}
-use lib.ListN.{length, take, drop, length-take, length-drop}
+use lib.Dec.{leb}
+use lib.ListN.{length, take, drop}
 use Rattle.refusal.specs.declared.Refusal.{Refusal}
 use Rattle.sheet.specs.MeaningName.{Name, isName}
 use Rattle.sheet.specs.MeaningSheet.{tagOf, sizeOf, endOf, valueOf}
 use Rattle.sheet.proofs.Choosing.{either, clash, both}
 use Rattle.scope.specs.MeaningScope as meaning
 use Rattle.scope.specs.MeaningScope.{Step, most-steps}
-use Rattle.scope.specs.MeaningQuery.{nameAt, stop, kindFor, stepOf, stepAt, wordAt, Taken, oneMore, stepsAt, scopeQuery, asked, resolveQuery}
+use Rattle.scope.specs.MeaningQuery.{nameAt, stop, kindFor, stepOf, stepAt, wordAt, stepsAt, scopeQuery, asked, resolveQuery}
 use Rattle.scope.specs.MirrorScope.{rungOf, noRung, scope-0, scopeOf}
 use Rattle.scope.specs.MirrorQuery.{itemOf, wordOut, reachedOf, noScope, askedScopeOf, noName, askedNameOf}
 use Rattle.scope.specs.declared.Rung.{Rung}
@@ -22,7 +22,6 @@ use Rattle.scope.specs.declared.Scope.{Scope}
 use Rattle.scope.specs.declared.Item.{Item}
 use Rattle.scope.specs.declared.Item.the-variants.{Found, Nothing}
 use Rattle.scope.specs.declared.Reached.{Reached}
-use Rattle.scope.specs.declared.Verdict.{Verdict}
 use Rattle.scope.specs.declared.Verdict.the-variants.{Done, Refused}
 use Rattle.scope.specs.declared.AskedScope.{AskedScope}
 use Rattle.scope.specs.declared.AskedName.{AskedName}

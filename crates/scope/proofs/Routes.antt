@@ -2,19 +2,17 @@
 use mathlib.Core.Path.{_≡_, refl, sym, ap, _∙_}
 use mathlib.Core.List.{List, [], _∷_, _++_}
 use mathlib.Core.Option.{Option, none, some}
-use mathlib.Core.Bool.{true, false}
-use Prim.Native.Nat.{ℕ, zero, suc, _+_, _<_, _≤_}
+use Prim.Native.Nat.{ℕ, zero, suc, _+_, _≤_}
 use native.Mathlib.Omega.{arith}
 use borrow.Author.Tests.{eq-eqb, ne-eqb, lt-leb}
-use lib.Dec.{eqb, leb}
 use lib.ListN.{length}
-use Rattle.refusal.specs.MeaningAnswer.{Answer, done, refused}
+use Rattle.refusal.specs.MeaningAnswer.{done}
 use Rattle.refusal.specs.declared.Refusal.{Refusal}
 use Rattle.sheet.specs.MeaningSheet.{tagOf, endOf}
 use Rattle.sheet.proofs.Choosing.{clash}
 use Rattle.scope.specs.MeaningScope as meaning
 use Rattle.scope.specs.MeaningScope.{Step, most-steps}
-use Rattle.scope.specs.MeaningQuery.{nameAt, stop, kindFor, stepOf, stepAt, Taken, oneMore, stepsAt, pathFrom, pathOf, pathQuery}
+use Rattle.scope.specs.MeaningQuery.{nameAt, stop, kindFor, stepAt, Taken, oneMore, stepsAt, pathFrom, pathOf, pathQuery}
 use Rattle.scope.specs.MirrorScope.{rungOf, noRung, scope-0, scopeOf, pathIn, poppedFrom, lastOf}
 use Rattle.scope.specs.MirrorQuery.{itemOf, reachedOf, noPath, askedPathOf}
 use Rattle.scope.specs.declared.Rung.{Rung}
@@ -25,8 +23,9 @@ use Rattle.scope.specs.declared.Item.{Item}
 use Rattle.scope.specs.declared.Item.the-variants.{Found, Nothing}
 use Rattle.scope.specs.declared.Reached.{Reached}
 use Rattle.scope.specs.declared.AskedPath.{AskedPath}
-use Rattle.scope.specs.declared.Verdict.{Verdict}
 use Rattle.scope.specs.declared.Verdict.the-variants.{Done, Refused}
+use Rattle.scope.proofs.Holding.{pop-refused}
+use Rattle.scope.proofs.Standing.{no-name}
 use Rattle.scope.proofs.Reaching.{behind, nobody, stop-rung, at-after, scope-after}
 
 -- ---- one step more: what the fourth adds to three
@@ -64,11 +63,7 @@ few-steps (suc k) q at = few-by (stepAt q at) at k (stepsAt k q) (few-steps k q)
 -- nothing stands at the end
 pub none-at-end : (q : List ℕ) → stepAt q (length q) ≡ none
 unfolding stepAt nameAt
-none-at-end q = let e = lt-leb (endOf q (length q)) (length q) (omega arith) in rw e (nameless (kindFor (tagOf q (length q))))
-  where
-    nameless : (k : Option meaning.ScopeType) → stepOf k none ≡ none
-    nameless none = refl
-    nameless (some k) = refl
+none-at-end q = let e = lt-leb (endOf q (length q)) (length q) (omega arith) in rw e (no-name (kindFor (tagOf q (length q))))
 
 -- ---- the last step is the item
 
@@ -95,17 +90,13 @@ item-of x (y ∷ []) h = refl
 item-of x (y ∷ z ∷ []) h = refl
 item-of x (y ∷ z ∷ w ∷ l) h = absurd (let e : ⊥ = omega arith in e)
 
-root-is : poppedFrom (scopeOf []) ≡ Root
-unfolding poppedFrom scopeOf
-root-is = refl
-
 root-only : (l : List Step) → length l ≤ 3 → poppedFrom (scopeOf l) ≡ Root → l ≡ []
 root-only [] h e = refl
 root-only (x ∷ l) h e = let z : Outer (scopeOf (pathFrom x l .scope)) ≡ Root = sym (outer-of x l h) ∙ e in clash (cc)
 
 last-asked : (l : List Step) → length l ≤ 3 → (u : Scope) → poppedFrom (scopeOf l) ≡ Outer u → (e : ℕ) → record { verdict = Done; path = record { scope = u; item = lastOf (scopeOf l) } } ≡ askedPathOf (pathOf l e)
 unfolding pathOf askedPathOf pathIn
-last-asked [] h u k e = let z : Root ≡ Outer u = sym root-is ∙ k in clash (cc)
+last-asked [] h u k e = let z : Root ≡ Outer u = sym pop-refused ∙ k in clash (cc)
 last-asked (x ∷ l) h u k e =
     let z : Outer (scopeOf (pathFrom x l .scope)) ≡ Outer u = sym (outer-of x l h) ∙ k in
     let y : scopeOf (pathFrom x l .scope) ≡ u = cc in

@@ -1,9 +1,9 @@
 -- One field of a query: what `field_at` answers, by the bytes, and so which step or name stands there.
 use mathlib.Core.Path.{_≡_, refl, sym, ap, _∙_, subst}
-use mathlib.Core.List.{List, [], _∷_}
+use mathlib.Core.List.{List}
 use mathlib.Core.Option.{Option, none, some}
-use mathlib.Core.Bool.{Bool, true, false, cond, _&&_}
-use Prim.Native.Nat.{ℕ, _+_, _-_, _<_, _≤_}
+use mathlib.Core.Bool.{Bool, true, false}
+use Prim.Native.Nat.{ℕ, _+_, _-_, _≤_}
 use native.Mathlib.Nat.{le-refl}
 use native.Mathlib.Omega.{arith}
 use borrow.Author.Tests.{eq-eqb, ne-eqb, le-leb, lt-leb, leb-true, ltb-true, ltb-false}
@@ -17,15 +17,13 @@ use Rattle.sheet.specs.declared.Header.the-variants.{Field, Passes}
 use Rattle.sheet.proofs.Choosing.{either, clash, and-false}
 use Rattle.sheet.proofs.Deciding.{value-order, value-in}
 use Rattle.scope.specs.MeaningScope as meaning
-use Rattle.scope.specs.MeaningScope.{Step, tagFor}
+use Rattle.scope.specs.MeaningScope.{tagFor}
 use Rattle.scope.specs.MeaningQuery.{nameAt, stop, tagged, kindFor, stepOf, stepAt, wordAt}
 use Rattle.scope.specs.MirrorScope.{kindIn, rungOf, noRung}
 use Rattle.scope.specs.MirrorQuery.{taggedOf, itemOf, wordOut}
 use Rattle.scope.specs.declared.ScopeType.{ScopeType}
-use Rattle.scope.specs.declared.Rung.{Rung}
 use Rattle.scope.specs.declared.Tagged.{Tagged}
 use Rattle.scope.specs.declared.Tagged.the-variants.{Kind, Other}
-use Rattle.scope.specs.declared.Item.{Item}
 use Rattle.scope.specs.declared.Item.the-variants.{Found, Nothing}
 
 -- ---- tags
@@ -63,6 +61,11 @@ unfolding taggedOf
 kind-some none g k e f = let z : Other ≡ Kind k = sym e ∙ f in clash (cc)
 kind-some (some x) g k e f = let z : Kind (kindIn x) ≡ Kind k = sym e ∙ f in (x, refl, cc)
 
+-- where no name stands, no step does
+pub no-name : (k : Option meaning.ScopeType) → stepOf k none ≡ none
+no-name none = refl
+no-name (some k) = refl
+
 -- ---- what a header says of the bytes
 
 module _ (q : List ℕ) (at : ℕ) where
@@ -76,10 +79,6 @@ module _ (q : List ℕ) (at : ℕ) where
       either Says (ltb (length q - at) 3) Passes _ (λ h. lt-leb (endOf q at) (length q) (omega (arith, ltb-true (length q - at) 3 h)))
       (λ h. either Says (ltb (length q - (at + 3)) (sizeOf q at)) Passes _ (λ k. lt-leb (endOf q at) (length q) (omega (arith, ltb-true (length q - (at + 3)) (sizeOf q at) k)))
       (λ k. (refl, refl, refl, le-leb (endOf q at) (length q) (omega (arith, ltb-false (length q - at) 3 h, ltb-false (length q - (at + 3)) (sizeOf q at) k)))))
-
-  no-name : (k : Option meaning.ScopeType) → stepOf k none ≡ none
-  no-name none = refl
-  no-name (some k) = refl
 
   no-step : nameAt q at ≡ none → Nothing ≡ itemOf (stepAt q at)
   unfolding stepAt itemOf

@@ -8,14 +8,18 @@ use mathlib.Core.Bool.{true}
 use lib.ListN.{length}
 use Rattle.refusal.specs.MeaningAnswer.{done, refused}
 use Rattle.sheet.specs.MeaningReading.{Reading}
+use Rattle.sheet.specs.MeaningName.{Name}
 use Rattle.sheet.specs.MeaningSheet.{endOf}
 use Rattle.scope.specs.MeaningNames.{sameName}
 use Rattle.scope.specs.MeaningScope.{Step, Scope, Path, sameScope, compared}
 use Rattle.scope.specs.MeaningScope.Comparison.{less, equal, greater}
-use Rattle.scope.specs.MeaningQuery.{stepAt, scopeQuery, pathQuery}
+use Rattle.scope.specs.MeaningQuery.{stepAt, wordAt, scopeQuery, pathQuery, Question, resolveQuery}
 use Rattle.scope.specs.Told.{toldCompared}
 use Rattle.scope.specs.Promises.{Promise-order}
+use Rattle.scope.specs.MirrorScope.{rungOf, scopeOf, pushedOn, poppedFrom}
 use Rattle.scope.specs.declared.Compared.{Compared}
+use Rattle.scope.specs.declared.Pushed.the-variants.{Onto, Full}
+use Rattle.scope.specs.declared.Popped.the-variants.{Outer}
 
 -- ---- equal names: an equivalence, under every reading
 
@@ -91,3 +95,31 @@ Path-accepts = (q : List ℕ) (p : Path) → (pathQuery q ≡ done p) ↔ Whole 
 
 abbrev pub Path-refuses : Type 0
 Path-refuses = (q : List ℕ) (n at : ℕ) → (pathQuery q ≡ refused n at) ↔ ((n ≡ 15) × Fails 1 4 q at)
+
+-- "A `resolve` query is a scope query and then one field 10": these steps, then this name, and nothing else
+abbrev pub Asks : List ℕ → Scope → Name → Type 0
+Asks q xs w = (at : ℕ) × Stand q 0 xs at × (length xs ≤ 3) × (wordAt q at ≡ some w) × (endOf q at ≡ length q)
+
+-- where that fails first
+pub data FailsAsking (q : List ℕ) : ℕ → Type 0 where
+  -- the first field that is neither a step which may still come nor a field 10 with a name; or the query's end, where that is missing
+  unasked : {at : ℕ} {xs : List Step} → Stand q 0 xs at → length xs ≤ 3 → (length xs < 3 → stepAt q at ≡ none) → wordAt q at ≡ none → FailsAsking q at
+  -- the first field behind the name
+  behind : {at : ℕ} {xs : List Step} {w : Name} → Stand q 0 xs at → length xs ≤ 3 → wordAt q at ≡ some w → endOf q at < length q → FailsAsking q (endOf q at)
+
+abbrev pub Resolve-accepts : Type 0
+Resolve-accepts = (q : List ℕ) (a : Question) → (resolveQuery q ≡ done a) ↔ Asks q (a .scope) (a .word)
+
+abbrev pub Resolve-refuses : Type 0
+Resolve-refuses = (q : List ℕ) (n at : ℕ) → (resolveQuery q ≡ refused n at) ↔ ((n ≡ 15) × FailsAsking q at)
+
+-- ---- scopes as the code holds them: a step more goes behind the others, a full scope takes none, and popping takes the last away
+
+abbrev pub Push-appends : Type 0
+Push-appends = (a : Scope) (x : Step) → length a < 3 → pushedOn (scopeOf a) (rungOf x) ≡ Onto (scopeOf (a ++ (x ∷ [])))
+
+abbrev pub Push-refuses : Type 0
+Push-refuses = (a : Scope) (x : Step) → 3 ≤ length a → pushedOn (scopeOf a) (rungOf x) ≡ Full
+
+abbrev pub Pop-drops : Type 0
+Pop-drops = (a : Scope) (x : Step) → length a < 3 → poppedFrom (scopeOf (a ++ (x ∷ []))) ≡ Outer (scopeOf a)

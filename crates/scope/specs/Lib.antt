@@ -3,6 +3,6 @@ pub mod MeaningScope
 pub mod MeaningQuery
 pub mod Told
 pub mod Promises
-pub mod Claims
 pub mod MirrorScope
 pub mod MirrorQuery
+pub mod Claims

@@ -1,6 +1,5 @@
 -- How what a query asks for stands in the code's structs.
 use Prim.Native.Nat.{ℕ}
-use mathlib.Core.List.{[]}
 use mathlib.Core.Option.{Option, none, some}
 use Rattle.refusal.specs.MeaningAnswer.{Answer, done, refused}
 use Rattle.sheet.specs.MeaningName.{Name}
@@ -13,7 +12,6 @@ use Rattle.scope.specs.declared.Tagged.the-variants.{Kind, Other}
 use Rattle.scope.specs.declared.Item.{Item}
 use Rattle.scope.specs.declared.Item.the-variants.{Found, Nothing}
 use Rattle.scope.specs.declared.Reached.{Reached}
-use Rattle.scope.specs.declared.Verdict.{Verdict}
 use Rattle.scope.specs.declared.Verdict.the-variants.{Done, Refused}
 use Rattle.scope.specs.declared.AskedScope.{AskedScope}
 use Rattle.scope.specs.declared.AskedPath.{AskedPath}

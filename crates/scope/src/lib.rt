@@ -2,13 +2,12 @@
 //
 // Scopes and paths, the queries that ask for them, and the partial order of scopes. A name is a span of the bytes it stands in.
 ghost use mathlib.Core.Path.{_≡_};
-ghost use mathlib.Core.List.{[], _∷_};
-ghost use Prim.Native.Nat.{_<_, _≤_, _+_, _-_};
+ghost use Prim.Native.Nat.{_≤_};
 ghost use lib.ListN.{length};
 ghost use Rattle.sheet.specs.MeaningReading.Reading.{rust};
 ghost use Rattle.sheet.specs.Told.{toldReading};
 ghost use Rattle.scope.specs.MeaningNames.{sameBytes, sameName};
-ghost use Rattle.scope.specs.MeaningScope.{placeOf, tagFor, most-steps, sameStep, starts, compared};
+ghost use Rattle.scope.specs.MeaningScope.{placeOf, most-steps, sameStep, starts, compared};
 ghost use Rattle.scope.specs.MeaningQuery.{kindFor, stepAt, wordAt, stepsAt, scopeQuery, pathQuery, resolveQuery};
 ghost use Rattle.scope.specs.Told.{toldKind, toldCompared};
 ghost use Rattle.scope.specs.Promises.{Promise-order};
@@ -348,11 +347,9 @@ fn read_steps(q: &[u8]) -> Reached
     ensures { λ r. ⌜ (r ≡ reachedOf (stepsAt most-steps (now (q .entry)) 0)) × (r .at ≤ length (now (q .entry))) ⌝ }
 {
     let none = Rung::none();
+    let root = Scope::root();
     let Item::Found(one) = step_at(q, 0) else {
-        return Reached {
-            scope: Scope::root(),
-            at: 0,
-        };
+        return Reached { scope: root, at: 0 };
     };
     let Item::Found(two) = step_at(q, one.stop) else {
         return Reached {

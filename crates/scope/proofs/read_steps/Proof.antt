@@ -7,6 +7,9 @@ use Rattle.scope.proofs.Reaching.{stepping}
 none-requires : tie.Need-none-requires
 none-requires c κs = search (stepping, needs)
 
+root-requires : tie.Need-root-requires
+root-requires c κs = search (stepping, needs)
+
 step-at-requires : tie.Need-step-at-requires
 step-at-requires c κs = search (stepping, needs)
 
@@ -15,9 +18,6 @@ enum-known-one c = search (stepping, needs)
 
 enum-told : tie.Need-enum-told
 enum-told c = search (stepping, needs)
-
-root-requires : tie.Need-root-requires
-root-requires c κs = search (stepping, needs)
 
 returns : tie.Need-returns
 returns c = search (stepping, needs)
@@ -54,10 +54,10 @@ read-steps-spec =
     tie.close
     (tie.spec
     none-requires
+    root-requires
     step-at-requires
     enum-known-one
     enum-told
-    root-requires
     returns
     step-at-requires-2
     enum-known-two
