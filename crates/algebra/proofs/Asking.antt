@@ -13,6 +13,7 @@ use Rattle.complex_entity.specs.Told.{toldOrder}
 use Rattle.complex_entity.specs.declared.PartialComplexEntity.{PartialComplexEntity}
 use Rattle.complex_entity.specs.declared.Made.{Made}
 use Rattle.complex_entity.specs.declared.Order.{Order}
+use Rattle.complex_entity.specs.declared.Verdict.{Verdict}
 use Rattle.complex_entity.specs.declared.Verdict.the-variants as verdict
 use Rattle.complex_entity.proofs.Names.{names-of-part}
 use Rattle.instantiables.specs.MirrorRows.{listsAt, sum, AllSets}
@@ -23,8 +24,8 @@ use Rattle.algebra.specs.declared.Read.{Read}
 use Rattle.algebra.specs.declared.Read.the-variants.{Whole, Wrong}
 use Rattle.algebra.specs.declared.Compared.the-variants as compared
 use Rattle.algebra.specs.MeaningOperands.{readPart}
-use Rattle.algebra.specs.MeaningQuestions.{Operator, Several, inOrder, both, fitting, written, one, valueOf, valueOfAll, askNew, askSingle, askCompare, askTwo, askSeveral}
-use Rattle.algebra.specs.MirrorOperands.{judged, countsOf, partsIn, Operable}
+use Rattle.algebra.specs.MeaningQuestions.{Operator, Several, inOrder, both, fitting, written, one, read, valueOf, valueOfAll, askNew, askSingle, askCompare, askTwo, askSeveral}
+use Rattle.algebra.specs.MirrorOperands.{judged, judgedBoth, countsOf, partsIn, Operable}
 use Rattle.algebra.specs.MirrorResults.{Valued, Handed}
 use Rattle.algebra.specs.Told.{toldCompared, toldOperand}
 use Rattle.algebra.specs.declared.Operand as code-operand
@@ -37,6 +38,55 @@ use Rattle.algebra.proofs.Handing.{hand-answers}
 pub refused-answers : (o : Answer (List Part)) (out : List ℕ) (w : Refusal) → o ≡ refused (w .number) (w .place) → Answers o out (listed.Refused w) out
 unfolding written
 refused-answers o out w e = rw e (record { says = refl; buffer = refl })
+
+-- ---- 15, left operand first
+module _ (r s : Read) where
+  module _ (k : ℕ) (why : Refusal) (d : why ≡ record { number = 15; place = k }) where
+    pub order-left : r ≡ Wrong k → verdict.Refused why ≡ judgedBoth r s
+    unfolding judgedBoth
+    order-left e = rw (e, d) refl
+
+    pub order-right : r ≡ Whole → s ≡ Wrong k → verdict.Refused why ≡ judgedBoth r s
+    unfolding judgedBoth
+    order-right e f = rw (e, f, d) refl
+
+  pub order-none : r ≡ Whole → s ≡ Whole → verdict.Done ≡ judgedBoth r s
+  unfolding judgedBoth
+  order-none e f = rw (e, f) refl
+
+pub ruleset ordering = (order-left, order-right, order-none)
+
+module _ (v : Verdict) (r s : Read) (o : v ≡ judgedBoth r s) where
+  -- no 15: both are good
+  module _ (e : v ≡ verdict.Done) where
+    pub order-whole : r ≡ Whole
+    unfolding judgedBoth
+    order-whole = go r s (sym e ∙ o)
+      where
+        go : (r s : Read) → verdict.Done ≡ judgedBoth r s → r ≡ Whole
+        go Whole s d = refl
+        go (Wrong k) s d = clash (cc)
+
+    pub order-whole-right : s ≡ Whole
+    unfolding judgedBoth
+    order-whole-right = go r s (sym e ∙ o)
+      where
+        go : (r s : Read) → verdict.Done ≡ judgedBoth r s → s ≡ Whole
+        go r Whole d = refl
+        go Whole (Wrong k) d = clash (cc)
+        go (Wrong j) (Wrong k) d = clash (cc)
+
+  -- a 15 is what `both` refuses, where a and b are the operands read
+  pub order-both : {A B : Type 0} (a : Answer A) (b : Answer B) (x : A) (why : Refusal) → (r ≡ Whole → a ≡ done x) → ((k : ℕ) → r ≡ Wrong k → a ≡ refused 15 k)
+      → ((k : ℕ) → s ≡ Wrong k → b ≡ refused 15 k) → v ≡ verdict.Refused why → both a b ≡ refused (why .number) (why .place)
+  unfolding judgedBoth both
+  order-both a b x why y f g e = go r s y f g (sym e ∙ o)
+    where
+      go : (r s : Read) → (r ≡ Whole → a ≡ done x) → ((k : ℕ) → r ≡ Wrong k → a ≡ refused 15 k) → ((k : ℕ) → s ≡ Wrong k → b ≡ refused 15 k)
+          → verdict.Refused why ≡ judgedBoth r s → both a b ≡ refused (why .number) (why .place)
+      go (Wrong k) s y f g d = let w : why ≡ record { number = 15; place = k } = cc in rw (f k refl, w) refl
+      go Whole (Wrong k) y f g d = let w : why ≡ record { number = 15; place = k } = cc in rw (y refl, g k refl, w) refl
+      go Whole Whole y f g d = clash (cc)
 
 -- ---- new
 module _ (indices out : List ℕ) (made : Made) (m : made ≡ madeOf (newOf indices)) where
@@ -86,60 +136,63 @@ module _ (l : List ℕ) (r : Read) (w : r ≡ judged (1 ∷ []) l) where
   pub part-refused : (k : ℕ) → r ≡ Wrong k → readPart l ≡ refused 15 k
   part-refused k e = part-wrong l k (sym w ∙ e)
 
-module _ (left right : List ℕ) (r : Read) (w : r ≡ judged (1 ∷ []) left) where
-  pub compare-left : (k : ℕ) (why : Refusal) → r ≡ Wrong k → why ≡ record { number = 15; place = k } → toldCompared (compared.Refused why) ≡ askCompare left right
+module _ (left right : List ℕ) (r s : Read) (w : r ≡ judged (1 ∷ []) left) (x : s ≡ judged (1 ∷ []) right) (v : Verdict) (o : v ≡ judgedBoth r s) where
+  pub compare-refused : (why : Refusal) → v ≡ verdict.Refused why → toldCompared (compared.Refused why) ≡ askCompare left right
+  unfolding askCompare
+  compare-refused why e =
+      rw (order-both v r s o (readPart left) (readPart right) (partAt left ∷ []) why (part-read left r w) (part-refused left r w) (part-refused right s x) e) refl
+
+  pub compare-is : (a b : PartialComplexEntity) (c : Order) → v ≡ verdict.Done → a ≡ partOf (partAt (drop 0 left)) → b ≡ partOf (partAt (drop 0 right)) → toldOrder c ≡ order (namesOf a) (namesOf b)
+      → toldCompared (compared.Is c) ≡ askCompare left right
   unfolding askCompare both
-  compare-left k why e d = rw (part-refused left r w k e, d) refl
+  compare-is a b c e p q h =
+      let m : namesOf a ≡ partAt left = ap namesOf p ∙ names-of-part (partAt left) in
+      let n : namesOf b ≡ partAt right = ap namesOf q ∙ names-of-part (partAt right) in
+      rw (part-read left r w (order-whole v r s o e), part-read right s x (order-whole-right v r s o e), ← m, ← n) (ap (λ (z : Ordering). done z) h)
 
-  module _ (e : r ≡ Whole) (s : Read) (x : s ≡ judged (1 ∷ []) right) where
-    pub compare-right : (k : ℕ) (why : Refusal) → s ≡ Wrong k → why ≡ record { number = 15; place = k } → toldCompared (compared.Refused why) ≡ askCompare left right
-    unfolding askCompare both
-    compare-right k why f d = rw (part-read left r w e, part-refused right s x k f, d) refl
-
-    pub compare-is : (a b : PartialComplexEntity) (o : Order) → s ≡ Whole → a ≡ partOf (partAt (drop 0 left)) → b ≡ partOf (partAt (drop 0 right)) → toldOrder o ≡ order (namesOf a) (namesOf b)
-        → toldCompared (compared.Is o) ≡ askCompare left right
-    unfolding askCompare both
-    compare-is a b o f p q h =
-        let m : namesOf a ≡ partAt left = ap namesOf p ∙ names-of-part (partAt left) in
-        let n : namesOf b ≡ partAt right = ap namesOf q ∙ names-of-part (partAt right) in
-        rw (part-read left r w e, part-read right s x f, ← m, ← n) (ap (λ (z : Ordering). done z) h)
-
-pub ruleset comparing = (part-room, compare-left, compare-right, compare-is)
+pub ruleset comparing = (order-whole, order-whole-right, part-room, compare-refused, compare-is)
 
 -- ---- two operands
-pub two-operable : (i : code-operand.Operand) (l : List ℕ) (r : Read) → r ≡ judged (countsOf (toldOperand i) l) l → r ≡ Whole → Operable l
-two-operable i l r w e = operand-operable (toldOperand i) l r w e
+module _ (i : code-operand.Operand) (l : List ℕ) (r s : Read) (v : Verdict) where
+  pub left-operable : r ≡ judged (countsOf (toldOperand i) l) l → v ≡ judgedBoth r s → v ≡ verdict.Done → Operable l
+  left-operable w o e = operand-operable (toldOperand i) l r w (order-whole v r s o e)
 
-module _ (op : Operator) (i j : code-operand.Operand) (left right out : List ℕ) (r : Read) (w : r ≡ judged (countsOf (toldOperand i) left) left) where
-  pub two-left : (k : ℕ) (why : Refusal) → r ≡ Wrong k → why ≡ record { number = 15; place = k }
-      → Answers (askTwo op (toldOperand i) (toldOperand j) left right (length out)) out (listed.Refused why) out
+  pub right-operable : s ≡ judged (countsOf (toldOperand i) l) l → v ≡ judgedBoth r s → v ≡ verdict.Done → Operable l
+  right-operable x o e = operand-operable (toldOperand i) l s x (order-whole-right v r s o e)
+
+module _ (op : Operator) (i j : code-operand.Operand) (left right out : List ℕ) (r s : Read) (w : r ≡ judged (countsOf (toldOperand i) left) left)
+    (x : s ≡ judged (countsOf (toldOperand j) right) right) (v : Verdict) (o : v ≡ judgedBoth r s) where
+  pub two-refused : (why : Refusal) → v ≡ verdict.Refused why → Answers (askTwo op (toldOperand i) (toldOperand j) left right (length out)) out (listed.Refused why) out
+  unfolding askTwo inOrder
+  two-refused why e =
+      refused-answers _ out why
+      (rw (order-both v r s o (read (toldOperand i) left) (read (toldOperand j) right) (partsIn left) why
+      (operand-says (toldOperand i) left r w) (λ k. operand-wrong (toldOperand i) left r k w) (λ k. operand-wrong (toldOperand j) right s k x) e) refl)
+
+  pub two-answers : (work : List ℕ) (listed res : Listed) (out' : List ℕ) → v ≡ verdict.Done → Valued (valueOf op (partsIn left) (partsIn right)) work (toldListed listed)
+      → Handed (toldListed listed) work out (toldListed res) out' → Answers (askTwo op (toldOperand i) (toldOperand j) left right (length out)) out res out'
   unfolding askTwo inOrder both
-  two-left k why e d = refused-answers _ out why (rw (operand-wrong (toldOperand i) left r k w e, d) refl)
+  two-answers work listed res out' e u h =
+      rw (operand-says (toldOperand i) left r w (order-whole v r s o e), operand-says (toldOperand j) right s x (order-whole-right v r s o e))
+      (hand-answers (valueOf op (partsIn left) (partsIn right)) work out listed res out' u h)
 
-  module _ (e : r ≡ Whole) (s : Read) (x : s ≡ judged (countsOf (toldOperand j) right) right) where
-    pub two-right : (k : ℕ) (why : Refusal) → s ≡ Wrong k → why ≡ record { number = 15; place = k }
-        → Answers (askTwo op (toldOperand i) (toldOperand j) left right (length out)) out (listed.Refused why) out
-    unfolding askTwo inOrder both
-    two-right k why f d = refused-answers _ out why (rw (operand-says (toldOperand i) left r w e, operand-wrong (toldOperand j) right s k x f, d) refl)
+pub ruleset asking-two = (left-operable, right-operable, two-refused, two-answers)
 
-    pub two-answers : (work : List ℕ) (listed res : Listed) (out' : List ℕ) → s ≡ Whole → Valued (valueOf op (partsIn left) (partsIn right)) work (toldListed listed)
-        → Handed (toldListed listed) work out (toldListed res) out' → Answers (askTwo op (toldOperand i) (toldOperand j) left right (length out)) out res out'
-    unfolding askTwo inOrder both
-    two-answers work listed res out' f v h =
-        rw (operand-says (toldOperand i) left r w e, operand-says (toldOperand j) right s x f) (hand-answers (valueOf op (partsIn left) (partsIn right)) work out listed res out' v h)
+-- ---- several lists: there is no right operand
+module _ (op : Several) (counts rows out : List ℕ) (r : Read) (w : r ≡ judged counts rows) (v : Verdict) (o : v ≡ judgedBoth r Whole) where
+  pub several-refused : (why : Refusal) → v ≡ verdict.Refused why → Answers (askSeveral op counts rows (length out)) out (listed.Refused why) out
+  unfolding askSeveral inOrder judgedBoth
+  several-refused why e = go r w (sym e ∙ o)
+    where
+      go : (r : Read) → r ≡ judged counts rows → verdict.Refused why ≡ judgedBoth r Whole → Answers (askSeveral op counts rows (length out)) out (listed.Refused why) out
+      go (Wrong k) w d = let y : why ≡ record { number = 15; place = k } = cc in refused-answers _ out why (rw (wrong-says counts rows k (sym w), y) refl)
+      go Whole w d = clash (cc)
 
-pub ruleset asking-two = (two-operable, two-left, two-right, two-answers)
-
--- ---- several lists
-module _ (op : Several) (counts rows out : List ℕ) (r : Read) (w : r ≡ judged counts rows) where
-  pub several-wrong : (k : ℕ) (why : Refusal) → r ≡ Wrong k → why ≡ record { number = 15; place = k } → Answers (askSeveral op counts rows (length out)) out (listed.Refused why) out
-  unfolding askSeveral inOrder
-  several-wrong k why e d = refused-answers _ out why (rw (wrong-says counts rows k (sym w ∙ e), d) refl)
-
-  pub several-answers : (work : List ℕ) (listed res : Listed) (out' : List ℕ) → r ≡ Whole → Valued (valueOfAll op (listsAt counts rows)) work (toldListed listed)
+  pub several-answers : (work : List ℕ) (listed res : Listed) (out' : List ℕ) → v ≡ verdict.Done → Valued (valueOfAll op (listsAt counts rows)) work (toldListed listed)
       → Handed (toldListed listed) work out (toldListed res) out' → Answers (askSeveral op counts rows (length out)) out res out'
   unfolding askSeveral inOrder
-  several-answers work listed res out' e v h = rw (taken-says counts rows (sym w ∙ e)) (hand-answers (valueOfAll op (listsAt counts rows)) work out listed res out' v h)
+  several-answers work listed res out' e u h =
+      rw (taken-says counts rows (sym w ∙ order-whole v r Whole o e)) (hand-answers (valueOfAll op (listsAt counts rows)) work out listed res out' u h)
 
 module _ (counts rows : List ℕ) (r : Read) (w : r ≡ judged counts rows) (e : r ≡ Whole) where
   pub several-room : 13 * sum counts ≤ length rows
@@ -148,4 +201,4 @@ module _ (counts rows : List ℕ) (r : Read) (w : r ≡ judged counts rows) (e :
   pub several-sets : AllSets (listsAt counts rows)
   several-sets = taken-sets counts rows (sym w ∙ e)
 
-pub ruleset asking-several = (several-wrong, several-answers, several-room, several-sets)
+pub ruleset asking-several = (order-whole, several-refused, several-answers, several-room, several-sets)

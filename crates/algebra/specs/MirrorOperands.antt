@@ -8,6 +8,8 @@ use lib.ListN.{length, take, drop}
 use lib.Dec.{ltb}
 use Rattle.complex_entity.specs.MeaningParts.{Part}
 use Rattle.complex_entity.specs.MeaningLists.{most-parts}
+use Rattle.complex_entity.specs.declared.Verdict.{Verdict}
+use Rattle.complex_entity.specs.declared.Verdict.the-variants.{Done, Refused}
 use Rattle.instantiables.specs.MirrorRows.{partsAt, Sets}
 use Rattle.algebra.specs.MeaningOperands.{isRow, firstWrong, wanted, rowsIn}
 use Rattle.algebra.specs.MeaningQuestions.{Operand, a-list, a-part}
@@ -26,6 +28,12 @@ readOf (some k) = Wrong k
 -- what is wrong with an operand of which lists of so many rows are wanted
 unfoldable pub judged : List ℕ → List ℕ → Read
 judged counts rows = readOf (firstWrong 0 (wanted counts) (rowsIn rows))
+
+-- the left operand's 15, else the right one's
+unfoldable pub judgedBoth : Read → Read → Verdict
+judgedBoth (Wrong k) s = Refused (record { number = 15; place = k })
+judgedBoth Whole (Wrong k) = Refused (record { number = 15; place = k })
+judgedBoth Whole Whole = Done
 
 -- how many rows an operand is to have: a list as many as there are
 abbrev pub countsOf : Operand → List ℕ → List ℕ

@@ -11,7 +11,7 @@ ghost use Rattle.instantiables.specs.MirrorRows.{partsAt, listsAt, sum, AllSets
 ghost use Rattle.instantiables.specs.Told.{toldListed};
 ghost use Rattle.algebra.specs.MeaningOperands.{isRow};
 ghost use Rattle.algebra.specs.MeaningQuestions.{fitting, valueOf, valueOfAll, plus, times, minus, over, a-list, a-part, one-of, every-of, some-of};
-ghost use Rattle.algebra.specs.MirrorOperands.{goodFrom, judged, countsOf, partsIn, Operable};
+ghost use Rattle.algebra.specs.MirrorOperands.{goodFrom, judged, judgedBoth, countsOf, partsIn, Operable};
 ghost use Rattle.algebra.specs.MirrorResults.{Within, Valued, Handed};
 ghost use Rattle.algebra.specs.Told.{toldOperator, toldOperand, toldSeveral};
 ghost use Rattle.algebra.specs.Promises.{Answers, Promise-new, Promise-single, Promise-compare, Promise-two, Promise-several};
@@ -79,11 +79,12 @@ pub fn single(index: u16, out: &mut [u16]) -> Listed
 pub fn compare(left: &[u16], right: &[u16]) -> Compared
     ensures { λ r. ⌜ Promise-compare (now (left .entry)) (now (right .entry)) r ⌝ }
 {
-    if let Read::Wrong(k) = read_operand(Operand::Part, left) {
-        return Compared::Refused(Refusal::at(15, k));
-    }
-    if let Read::Wrong(k) = read_operand(Operand::Part, right) {
-        return Compared::Refused(Refusal::at(15, k));
+    let verdict = in_order(
+        read_operand(Operand::Part, left),
+        read_operand(Operand::Part, right),
+    );
+    if let Verdict::Refused(why) = verdict {
+        return Compared::Refused(why);
     }
     Compared::Is(PartialComplexEntity::read(left, 0).compare(PartialComplexEntity::read(right, 0)))
 }
@@ -255,7 +256,20 @@ pub fn andor(counts: &[u16], rows: &[u16], out: &mut [u16]) -> Listed
 
 // ---- the order of refusals: 15, left operand first; the question's own; 12
 
-// Both operands are read before anything is worked out, the left one first.
+// Each question of operands starts here, so that this order stands in one place; `hand_out` is its end.
+fn in_order(left: Read, right: Read) -> Verdict
+    ensures { λ r. ⌜ r ≡ judgedBoth left right ⌝ }
+{
+    if let Read::Wrong(k) = left {
+        return Verdict::Refused(Refusal::at(15, k));
+    }
+    if let Read::Wrong(k) = right {
+        return Verdict::Refused(Refusal::at(15, k));
+    }
+    Verdict::Done
+}
+
+// Both operands are read before anything is worked out.
 fn ask_two(
     op: Operator,
     i: Operand,
@@ -266,11 +280,9 @@ fn ask_two(
 ) -> Listed
     ensures { λ r. ⌜ Promise-two (toldOperator op) (toldOperand i) (toldOperand j) (now (left .entry)) (now (right .entry)) (now (out .entry)) r (now (out .exit)) ⌝ }
 {
-    if let Read::Wrong(k) = read_operand(i, left) {
-        return Listed::Refused(Refusal::at(15, k));
-    }
-    if let Read::Wrong(k) = read_operand(j, right) {
-        return Listed::Refused(Refusal::at(15, k));
+    let verdict = in_order(read_operand(i, left), read_operand(j, right));
+    if let Verdict::Refused(why) = verdict {
+        return Listed::Refused(why);
     }
     let mut work = [0u16; Instantiables::ROOM];
     let listed = value(op, &mut work, left, right);
@@ -280,8 +292,9 @@ fn ask_two(
 fn ask_several(op: Several, counts: &[u16], rows: &[u16], out: &mut [u16]) -> Listed
     ensures { λ r. ⌜ Promise-several (toldSeveral op) (now (counts .entry)) (now (rows .entry)) (now (out .entry)) r (now (out .exit)) ⌝ }
 {
-    if let Read::Wrong(k) = read_lists(counts, rows) {
-        return Listed::Refused(Refusal::at(15, k));
+    let verdict = in_order(read_lists(counts, rows), Read::Whole);
+    if let Verdict::Refused(why) = verdict {
+        return Listed::Refused(why);
     }
     let mut work = [0u16; Instantiables::ROOM];
     let listed = value_of_all(op, &mut work, counts, rows);

@@ -2,7 +2,7 @@
 //
 // Parts: a partial complex entity is a set of at most 12 names, each an index, in rising order.
 ghost use mathlib.Core.Path.{_≡_};
-ghost use mathlib.Core.List.{[], _∷_};
+ghost use mathlib.Core.List.{[], _∷_, _++_};
 ghost use Prim.Native.Nat.{_+_, _≤_, min};
 ghost use lib.ListN.{length, drop};
 ghost use lib.Seq.{paste};
@@ -176,7 +176,7 @@ impl PartialComplexEntity {
         true
     }
 
-    // The names of both: the two are walked together.
+    // The names of both: the two are walked together until one of them is used up.
     pub fn join(self, other: Self) -> Made
         ensures { λ r. ⌜ r ≡ narrowOf (merge (namesOf self) (namesOf other)) ⌝ }
     {
@@ -186,44 +186,51 @@ impl PartialComplexEntity {
         let mut i = 0;
         let mut j = 0;
         let mut k = 0;
-        loop {
-            if i < n {
-                if k >= Self::LIMIT {
-                    return Self::over();
-                }
-                let x = self.names[i];
-                if j < m {
-                    let y = other.names[j];
-                    if x < y {
-                        names[k] = x;
-                        i += 1;
-                        k += 1;
-                    } else if y < x {
-                        names[k] = y;
-                        j += 1;
-                        k += 1;
-                    } else {
-                        names[k] = x;
-                        i += 1;
-                        j += 1;
-                        k += 1;
-                    }
-                } else {
-                    names[k] = x;
-                    i += 1;
-                    k += 1;
-                }
-            } else if j < m {
-                if k >= Self::LIMIT {
-                    return Self::over();
-                }
-                names[k] = other.names[j];
+        while i < n {
+            if j >= m {
+                return Self { n: k, names }.append(self, i);
+            }
+            if k >= Self::LIMIT {
+                return Self::over();
+            }
+            let x = self.names[i];
+            let y = other.names[j];
+            if x < y {
+                names[k] = x;
+                i += 1;
+                k += 1;
+            } else if y < x {
+                names[k] = y;
                 j += 1;
                 k += 1;
             } else {
-                return Self::made(k, names);
+                names[k] = x;
+                i += 1;
+                j += 1;
+                k += 1;
             }
         }
+        Self { n: k, names }.append(other, j)
+    }
+
+    // The other part's names, from one of them on, go after this one's.
+    fn append(self, other: Self, from: usize) -> Made
+        requires { ⌜ self ≡ partOf (namesOf self) ⌝ }
+        ensures { λ r. ⌜ r ≡ narrowOf (namesOf self ++ drop from (namesOf other)) ⌝ }
+    {
+        let m = other.size();
+        let mut names = self.names;
+        let mut k = self.n;
+        let mut j = from;
+        while j < m {
+            if k >= Self::LIMIT {
+                return Self::over();
+            }
+            names[k] = other.names[j];
+            j += 1;
+            k += 1;
+        }
+        Self::made(k, names)
     }
 
     // The part of the row that begins at a place.

@@ -7,11 +7,11 @@ use Rattle.algebra.proofs.ask_several.Tie as tie
 read-lists-requires : tie.Need-read-lists-requires
 read-lists-requires c κs = search needs
 
-enum-known-k : tie.Need-enum-known-k
-enum-known-k c = search needs
+in-order-requires : tie.Need-in-order-requires
+in-order-requires c κs = search needs
 
-at-requires : tie.Need-at-requires
-at-requires c κs = search needs
+enum-known-verdict : tie.Need-enum-known-verdict
+enum-known-verdict c = search needs
 
 returns : tie.Need-returns
 returns c = search (asking-several, needs)
@@ -42,8 +42,8 @@ ask-several-spec =
     tie.close
     (tie.spec
     read-lists-requires
-    enum-known-k
-    at-requires
+    in-order-requires
+    enum-known-verdict
     returns
     enum-told
     slice-aggregate-value-of-all

@@ -7,32 +7,20 @@ use Rattle.algebra.proofs.ask_two.Tie as tie
 read-operand-requires : tie.Need-read-operand-requires
 read-operand-requires c κs = search needs
 
-enum-known-k : tie.Need-enum-known-k
-enum-known-k c = search needs
+read-operand-requires-2 : tie.Need-read-operand-requires-2
+read-operand-requires-2 c κs = search needs
 
-at-requires : tie.Need-at-requires
-at-requires c κs = search needs
+in-order-requires : tie.Need-in-order-requires
+in-order-requires c κs = search needs
+
+enum-known-verdict : tie.Need-enum-known-verdict
+enum-known-verdict c = search needs
 
 returns : tie.Need-returns
 returns c = search (asking-two, needs)
 
 enum-told : tie.Need-enum-told
 enum-told c = search needs
-
-read-operand-requires-2 : tie.Need-read-operand-requires-2
-read-operand-requires-2 c κs = search needs
-
-enum-known-k-2 : tie.Need-enum-known-k-2
-enum-known-k-2 c = search needs
-
-at-requires-2 : tie.Need-at-requires-2
-at-requires-2 c κs = search needs
-
-returns-2 : tie.Need-returns-2
-returns-2 c = search (asking-two, needs)
-
-enum-told-2 : tie.Need-enum-told-2
-enum-told-2 c = search needs
 
 slice-aggregate-value : tie.Need-slice-aggregate-value
 slice-aggregate-value c = search needs
@@ -49,26 +37,22 @@ hand-out-requires c κs = search needs
 same-length : tie.Need-same-length
 same-length c = search needs
 
-returns-3 : tie.Need-returns-3
-returns-3 c = search (asking-two, needs)
+returns-2 : tie.Need-returns-2
+returns-2 c = search (asking-two, needs)
 
 pub ask-two-spec : {M : Type 1} → statement M
 ask-two-spec =
     tie.close
     (tie.spec
     read-operand-requires
-    enum-known-k
-    at-requires
+    read-operand-requires-2
+    in-order-requires
+    enum-known-verdict
     returns
     enum-told
-    read-operand-requires-2
-    enum-known-k-2
-    at-requires-2
-    returns-2
-    enum-told-2
     slice-aggregate-value
     value-requires
     slice-aggregate-hand-out
     hand-out-requires
     same-length
-    returns-3)
+    returns-2)

@@ -21,11 +21,17 @@ size-requires-2 c κs = search (joining, needs)
 loop-holds : tie.Need-loop-holds Inv-loop μ-loop
 loop-holds c = search (joining, needs)
 
-over-requires : tie.Need-over-requires Inv-loop μ-loop
-over-requires c κs = search (joining, needs)
+append-requires : tie.Need-append-requires Inv-loop μ-loop
+append-requires c κs = search (joining, needs)
 
 returns : tie.Need-returns Inv-loop μ-loop
 returns c = search (joining, needs)
+
+over-requires : tie.Need-over-requires Inv-loop μ-loop
+over-requires c κs = search (joining, needs)
+
+returns-2 : tie.Need-returns-2 Inv-loop μ-loop
+returns-2 c = search (joining, needs)
 
 mul-x : tie.Need-mul-x Inv-loop μ-loop
 mul-x c = search (joining, needs)
@@ -96,56 +102,8 @@ loop-less-3 c = search (joining, needs)
 loop-again-3 : tie.Need-loop-again-3 Inv-loop μ-loop
 loop-again-3 c = search (joining, needs)
 
-mul-names-4 : tie.Need-mul-names-4 Inv-loop μ-loop
-mul-names-4 c = search (joining, needs)
-
-array-write-names-4 : tie.Need-array-write-names-4 Inv-loop μ-loop
-array-write-names-4 c = search (joining, needs)
-
-add-i-3 : tie.Need-add-i-3 Inv-loop μ-loop
-add-i-3 c = search (joining, needs)
-
-add-k-4 : tie.Need-add-k-4 Inv-loop μ-loop
-add-k-4 c = search (joining, needs)
-
-loop-less-4 : tie.Need-loop-less-4 Inv-loop μ-loop
-loop-less-4 c = search (joining, needs)
-
-loop-again-4 : tie.Need-loop-again-4 Inv-loop μ-loop
-loop-again-4 c = search (joining, needs)
-
-over-requires-2 : tie.Need-over-requires-2 Inv-loop μ-loop
-over-requires-2 c κs = search (joining, needs)
-
-returns-2 : tie.Need-returns-2 Inv-loop μ-loop
-returns-2 c = search (joining, needs)
-
-mul-names-5 : tie.Need-mul-names-5 Inv-loop μ-loop
-mul-names-5 c = search (joining, needs)
-
-element-copy-out-names : tie.Need-element-copy-out-names Inv-loop μ-loop
-element-copy-out-names c = search (joining, needs)
-
-mul-names-6 : tie.Need-mul-names-6 Inv-loop μ-loop
-mul-names-6 c = search (joining, needs)
-
-array-write-names-5 : tie.Need-array-write-names-5 Inv-loop μ-loop
-array-write-names-5 c = search (joining, needs)
-
-add-j-3 : tie.Need-add-j-3 Inv-loop μ-loop
-add-j-3 c = search (joining, needs)
-
-add-k-5 : tie.Need-add-k-5 Inv-loop μ-loop
-add-k-5 c = search (joining, needs)
-
-loop-less-5 : tie.Need-loop-less-5 Inv-loop μ-loop
-loop-less-5 c = search (joining, needs)
-
-loop-again-5 : tie.Need-loop-again-5 Inv-loop μ-loop
-loop-again-5 c = search (joining, needs)
-
-made-requires : tie.Need-made-requires Inv-loop μ-loop
-made-requires c κs = search (joining, needs)
+append-requires-2 : tie.Need-append-requires-2 Inv-loop μ-loop
+append-requires-2 c κs = search (joining, needs)
 
 returns-3 : tie.Need-returns-3 Inv-loop μ-loop
 returns-3 c = search (joining, needs)
@@ -159,8 +117,10 @@ join-spec =
     size-requires
     size-requires-2
     loop-holds
-    over-requires
+    append-requires
     returns
+    over-requires
+    returns-2
     mul-x
     element-copy-out-x
     mul-y
@@ -184,21 +144,5 @@ join-spec =
     add-k-3
     loop-less-3
     loop-again-3
-    mul-names-4
-    array-write-names-4
-    add-i-3
-    add-k-4
-    loop-less-4
-    loop-again-4
-    over-requires-2
-    returns-2
-    mul-names-5
-    element-copy-out-names
-    mul-names-6
-    array-write-names-5
-    add-j-3
-    add-k-5
-    loop-less-5
-    loop-again-5
-    made-requires
+    append-requires-2
     returns-3)
