@@ -1,8 +1,14 @@
--- Laws of the parts of arrays that are handed over: they end inside.
+-- Laws of the parts of arrays that are handed over: they end inside, and the nodes that were read are an expression's.
 use mathlib.Core.Path.{_≡_}
 use mathlib.Core.List.{List}
-use Prim.Native.Nat.{ℕ, _≤_}
-use lib.ListN.{length}
+use Prim.Native.Nat.{ℕ, _-_, _≤_}
+use native.Mathlib.Omega.{arith}
+use lib.ListN.{length, take}
+use lib.Seq.{length-take-le}
+use Rattle.expression.specs.MirrorNodes.{Node}
+use Rattle.nodes.specs.MirrorBuilding.{Behind, ANode}
+use Rattle.nodes.specs.declared.Built.{Built}
+use Rattle.nodes.specs.declared.Built.the-variants.{Used}
 use Rattle.lines.specs.Places.{Filled}
 use Rattle.lines.specs.Values.{Decoded, AtMost}
 use Rattle.lines.specs.declared.values.Number.{Number}
@@ -15,5 +21,21 @@ decoded-inside r n before after e f = let g : Filled n before after = rw e at f 
 -- what is lent of a buffer
 pub lent-inside : (r : Number) (n : ℕ) (buffer : List ℕ) → r ≡ Is n → AtMost (length buffer) r → n ≤ length buffer
 lent-inside r n buffer e f = rw e at f
+
+pub lent-short : (r : Number) (n : ℕ) (buffer : List ℕ) → r ≡ Is n → AtMost (length buffer) r → AtMost 1664 r → length (take (n - 0) buffer) ≤ 1664
+lent-short r n buffer e f g =
+    let h : n ≤ length buffer = lent-inside r n buffer e f in
+    let k : n ≤ 1664 = rw e at g in
+    omega (arith, length-take-le (n - 0) buffer (omega arith))
+
+-- the nodes that were read
+pub nodes-inside : (r : Built) (n : ℕ) (before after : List ℕ) → r ≡ Used n → ((m : ℕ) → r ≡ Used m → Behind (ANode 12) 0 m before after) → n ≤ length after
+nodes-inside r n before after e f = f n e .inside
+
+pub nodes-stand : (r : Built) (n : ℕ) (before after : List ℕ) → r ≡ Used n → ((m : ℕ) → r ≡ Used m → Behind (ANode 12) 0 m before after) → Node (take (n - 0) after) 12
+nodes-stand r n before after e f =
+    let b = f n e in
+    let same : n - 0 ≡ n = omega arith in
+    rw (same, b .front) (b .sort)
 
 pub ruleset parts = (decoded-inside, lent-inside)

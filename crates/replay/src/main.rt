@@ -1,10 +1,11 @@
-// Answers the questions on parts, lists and sheets, a line each, from standard input to standard output.
+// Answers the questions on parts, lists, expressions and sheets, a line each, from standard input to standard output.
 ghost use Prim.Native.Nat.{_≤_};
 ghost use lib.ListN.{length};
 
 mod answers;
 mod operators;
 mod questions;
+mod valuing;
 
 use libc::STDIN_FILENO;
 use libc::STDOUT_FILENO;

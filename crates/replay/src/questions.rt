@@ -1,13 +1,18 @@
 // The questions: each shape of words is decoded, asked as it stands, malformed or not, and answered.
 ghost use lib.ListN.{length};
 ghost use Rattle.lines.specs.Values.{AtMost};
+ghost use Rattle.expression.specs.MirrorNodes.{Node};
 use crate::answers::BUFFER;
 use crate::answers::compared;
 use crate::answers::judged;
 use crate::answers::listed;
 use crate::answers::unknown;
 use crate::operators::ask;
+use crate::valuing::value;
+use expression::DEPTH;
 use lines::Number;
+use nodes::Built;
+use nodes::read_node;
 
 // The longest word of numbers that is asked has 130 rows.
 const WORD: usize = 1690;
@@ -15,11 +20,19 @@ const WORD: usize = 1690;
 // The longest sheet that is asked has 65,536 bytes.
 const SHEET: usize = 65600;
 
+// An expression that is asked has at most 513 nodes, of at most five bytes and of three numbers each.
+const FIELDS: usize = 2565;
+
+const NODES: usize = 1539;
+
 // Writes the answer to a line; answers its length.
 pub fn answer(line: &[u8], out: &mut [u8]) -> usize {
     let name = lines::word(line, 0);
     if lines::is(name, b"verdict") {
         return verdict(line, out);
+    }
+    if lines::is(name, b"eval") {
+        return eval(line, out);
     }
     if lines::is(name, b"new") {
         return new(line, out);
@@ -45,6 +58,30 @@ fn verdict(line: &[u8], out: &mut [u8]) -> usize {
         return unknown(out);
     };
     judged(out, sheet::verdict(&bytes[0..count]))
+}
+
+fn eval(line: &[u8], out: &mut [u8]) -> usize {
+    let mut bytes = [0u8; FIELDS];
+    let mut numbers = [0u16; NODES];
+    let Number::Is(count) = lines::bytes(lines::word(line, 1), &mut bytes) else {
+        return unknown(out);
+    };
+    let Built::Used(used) = read_node(&bytes[0..count], &mut numbers, 0, DEPTH) else {
+        return unknown(out);
+    };
+    of_nodes(line, out, &numbers[0..used])
+}
+
+// An expression as it was read.
+fn of_nodes(line: &[u8], out: &mut [u8], nodes: &[u16]) -> usize
+    requires { ⌜ Node (now nodes) 12 ⌝ }
+{
+    let mut buffer = [0u16; BUFFER];
+    let Number::Is(size) = lend(lines::word(line, 2), &mut buffer) else {
+        return unknown(out);
+    };
+    let told = value(nodes, &mut buffer[0..size]);
+    listed(out, told, &buffer)
 }
 
 fn new(line: &[u8], out: &mut [u8]) -> usize {
@@ -104,7 +141,8 @@ fn of_words(line: &[u8], out: &mut [u8], first: &[u16], second: &[u16]) -> usize
 
 // How many of the buffer's numbers are lent, as the word says. All are filled, so a change past them would show.
 fn lend(word: &[u8], buffer: &mut [u16; BUFFER]) -> Number
-    ensures { λ r. ⌜ AtMost (length (now (buffer .exit))) r ⌝ }
+    ensures within { λ r. ⌜ AtMost (length (now (buffer .exit))) r ⌝ }
+    ensures small { λ r. ⌜ AtMost 1664 r ⌝ }
 {
     let Number::Is(size) = lines::decimal_of(word) else {
         return Number::Missing;

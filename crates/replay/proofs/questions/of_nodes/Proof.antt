@@ -1,0 +1,66 @@
+-- The lent numbers are within the buffer, which is no longer than a list.
+use borrow.Author.Needs.{needs}
+use Rattle.replay.proofs.Parts.{parts, lent-short}
+use Rattle.replay.proofs.questions.of_nodes.Statement.{statement}
+use Rattle.replay.proofs.questions.of_nodes.Tie as tie
+
+word-requires : tie.Need-word-requires
+word-requires c κs = search needs
+
+lend-requires : tie.Need-lend-requires
+lend-requires c κs = search needs
+
+enum-known-size : tie.Need-enum-known-size
+enum-known-size c = search needs
+
+enum-told : tie.Need-enum-told
+enum-told c = search needs
+
+unknown-requires : tie.Need-unknown-requires
+unknown-requires c κs = search needs
+
+same-length : tie.Need-same-length
+same-length c = search needs
+
+returns : tie.Need-returns
+returns c = search needs
+
+sub-value : tie.Need-sub-value
+sub-value c = search needs
+
+part-buffer-start : tie.Need-part-buffer-start
+part-buffer-start c = search needs
+
+part-buffer-end : tie.Need-part-buffer-end
+part-buffer-end c = search (parts, needs)
+
+value-requires : tie.Need-value-requires
+value-requires c κs = (c .before .before .before .before .before .before .before .before .before .before .pre, lent-short _ _ (c .before .before .before .before .lend .last .1 .0) (c .before .before .size .given .1) (c .before .before .before .before .lend .ensures .0) (c .before .before .before .before .lend .ensures .1))
+
+listed-requires : tie.Need-listed-requires
+listed-requires c κs = search needs
+
+same-length-2 : tie.Need-same-length-2
+same-length-2 c = search needs
+
+returns-2 : tie.Need-returns-2
+returns-2 c = search needs
+
+pub of-nodes-spec : {M : Type 1} → statement M
+of-nodes-spec =
+    tie.close
+    (tie.spec
+    word-requires
+    lend-requires
+    enum-known-size
+    enum-told
+    unknown-requires
+    same-length
+    returns
+    sub-value
+    part-buffer-start
+    part-buffer-end
+    value-requires
+    listed-requires
+    same-length-2
+    returns-2)

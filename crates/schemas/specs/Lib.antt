@@ -1,0 +1,6 @@
+-- Meanings, then claims.
+pub mod MeaningTree
+pub mod MeaningSchemas
+pub mod MeaningBack
+pub mod MeaningStanding
+pub mod Claims

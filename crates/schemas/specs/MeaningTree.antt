@@ -1,0 +1,41 @@
+-- The fields of a sheet with their places: "a field's place is its tag's offset". Any bytes have a tree; what lies behind a header that passes the end is left out.
+use Prim.Native.Nat.{ℕ, zero, suc, _+_, _-_}
+use mathlib.Core.List.{List}
+use mathlib.Core.Bool.{cond}
+use lib.Dec.{leb}
+use lib.ListN.{length}
+use Rattle.sheet.specs.MeaningSheet.{tagOf, endOf, valueOf}
+use Rattle.forest.specs.MeaningForest.{Forest}
+use Rattle.forest.specs.MeaningForest.Forest.{nil as no-fields, leaf as plain, node as nested}
+use Rattle.forest.specs.MeaningPlaces.{nests}
+
+-- a forest, each field with its place
+pub data Tree : Type 0 where
+  nil : Tree
+  leaf : (tag place : ℕ) (value : List ℕ) (rest : Tree) → Tree
+  node : (tag place : ℕ) (inner rest : Tree) → Tree
+
+-- without the places
+abbrev pub bare : Tree → Forest
+bare nil = no-fields
+bare (leaf t p v f) = plain t v (bare f)
+bare (node t p g f) = nested t (bare g) (bare f)
+
+-- the field at `at` of a value that ends at e, and those after it, where go reads the fields between two places
+unfoldable pub grow : (ℕ → ℕ → Tree) → List ℕ → ℕ → ℕ → Tree
+grow go s at e =
+    cond (leb (endOf s at) e)
+    (cond (nests (tagOf s at)) (node (tagOf s at) at (go (at + 3) (endOf s at)) (go (endOf s at) e)) (leaf (tagOf s at) at (valueOf s at) (go (endOf s at) e))) nil
+
+-- at most n fields, one after the other or inside one another
+unfoldable pub treeBy : ℕ → List ℕ → ℕ → ℕ → Tree
+treeBy zero s at e = nil
+treeBy (suc n) s at e = grow (treeBy n s) s at e
+
+-- the fields of the value from `at` to e, which are fewer than its bytes
+unfoldable pub treeAt : List ℕ → ℕ → ℕ → Tree
+treeAt s at e = treeBy (suc (e - at)) s at e
+
+-- those of a sheet
+unfoldable pub treeOf : List ℕ → Tree
+treeOf s = treeAt s 0 (length s)
