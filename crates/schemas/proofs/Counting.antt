@@ -1,12 +1,11 @@
 -- A law for each way through the loop of `schema_count`.
 use mathlib.Core.Path.{_≡_, refl, sym, ap, _∙_, subst}
-use mathlib.Core.List.{List, [], _∷_}
-use mathlib.Core.Bool.{Bool, true, false, cond}
-use Prim.Native.Nat.{ℕ, zero, suc, _+_, _-_, _<_, _≤_}
+use mathlib.Core.List.{List, _∷_}
+use mathlib.Core.Bool.{Bool, true, false}
+use Prim.Native.Nat.{ℕ, suc, _+_, _-_, _<_, _≤_}
 use native.Mathlib.Nat.{le-refl}
 use native.Mathlib.Omega.{arith}
 use borrow.Author.Tests.{eq-eqb, ne-eqb}
-use lib.Dec.{eqb}
 use lib.ListN.{length}
 use Rattle.sheet.specs.MeaningGrammar.{kindOf, oneOf}
 use Rattle.sheet.specs.MirrorField.{fieldAt}
@@ -16,7 +15,6 @@ use Rattle.sheet.proofs.Deciding.{inside}
 use Rattle.forest.specs.MeaningPlaces.{nests}
 use Rattle.forest.proofs.Laying.{part}
 use Rattle.schemas.specs.MeaningTree.{Tree, treeAt, treeOf}
-use Rattle.schemas.specs.MeaningTree.Tree.{nil, leaf, node}
 use Rattle.schemas.specs.MeaningSchemas.{each, schemaOf, schemasOf}
 use Rattle.schemas.proofs.Trees.{onto, Grows, grows}
 
@@ -45,9 +43,6 @@ unfolding treeOf
 count-start s = record { within = omega arith; few = le-refl 0; rest = omega arith }
 
 module _ (s : List ℕ) (n from r : ℕ) (f : Counting s n from r) where
-  pub count-end : length s ≤ length s
-  count-end = le-refl (length s)
-
   module _ (h : Header) (q : h ≡ fieldAt s from (length s)) where
     pub count-none : h ≡ Passes → n ≡ r
     unfolding schemasOf each

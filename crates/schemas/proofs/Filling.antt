@@ -1,12 +1,12 @@
 -- What a filled line says of its first field, a law for each kind of slot; and which tags its fields can have.
-use mathlib.Core.Path.{_≡_, refl, sym, ap, _∙_, subst}
+use mathlib.Core.Path.{_≡_, refl, subst}
 use mathlib.Core.List.{List, [], _∷_, _++_}
 use mathlib.Core.Logic.{_⊎_, inl, inr}
 use mathlib.Core.Bool.{Bool, true, false, cond}
 use Prim.Native.Nat.{ℕ}
-use borrow.Author.Tests.{eqb-true, ne-eqb}
+use borrow.Author.Tests.{eqb-true}
 use lib.Dec.{eqb}
-use Rattle.sheet.specs.MeaningGrammar.{oneOf, Often, Slot, needed, again, Fills}
+use Rattle.sheet.specs.MeaningGrammar.{oneOf, Slot, needed, again, Fills}
 use Rattle.sheet.specs.MeaningGrammar.Often.{one, atMostOne, any}
 use Rattle.sheet.specs.MeaningGrammar.Fills.{done, skip, last, more}
 use Rattle.sheet.proofs.Choosing.{clash, opposed}

@@ -3,5 +3,7 @@ pub mod Trees
 pub mod Counting
 pub mod Filling
 pub mod Returning
+pub mod Again
+pub mod Laid
 pub mod Standing
 pub mod Proved

@@ -2,7 +2,7 @@
 use mathlib.Core.Path.{_≡_, refl, sym, ap, ap₂, _∙_}
 use mathlib.Core.List.{List, [], _∷_}
 use mathlib.Core.Logic.{_⊎_, inl, inr}
-use mathlib.Core.Bool.{Bool, true, false, cond, _&&_}
+use mathlib.Core.Bool.{true, false}
 use mathlib.Core.Option.{Option, none, some}
 use Prim.Native.Nat.{ℕ}
 use native.Mathlib.Omega.{arith}
@@ -21,9 +21,9 @@ use Rattle.forest.specs.MeaningForest.{Forest, tagsIn, Sound, Right, Fits}
 use Rattle.forest.specs.MeaningForest.Forest.{nil as no-fields, leaf as plain, node as nested}
 use Rattle.schemas.specs.MeaningTree.{Tree, bare}
 use Rattle.schemas.specs.MeaningTree.Tree.{nil, leaf, node}
-use Rattle.schemas.specs.MeaningSchemas.{nameAt, noName, nameOf, namesOf, termsOf, firstOf, exprOf, bodyOf, ruled, markOf, supertypesOf, typeOf, entityOf, constraintOf, each, schemaOf, schemasOf}
+use Rattle.schemas.specs.MeaningSchemas.{nameAt, nameOf, namesOf, termsOf, firstOf, exprOf, bodyOf, ruled, markOf, supertypesOf, typeOf, entityOf, constraintOf, each, schemaOf, schemasOf}
 use Rattle.schemas.specs.MeaningBack.{nameThen, namesBack, exprThen, termsBack, exprBack, bodyBack, markThen, supertypesBack, typeBack, entityBack, constraintBack, eachThen, schemaBack, forestOfSchemas}
-use Rattle.schemas.proofs.Filling.{choose, no-more, one-none, one-first, some-first, any-first, any-only, few-only, All, all-in}
+use Rattle.schemas.proofs.Filling.{choose, one-none, one-first, some-first, any-first, any-only, few-only, All, all-in}
 
 -- ---- the slots of the table
 

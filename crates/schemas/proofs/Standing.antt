@@ -15,7 +15,7 @@ use Rattle.expression.specs.MeaningExpression.Terms.{end, _then_}
 use Rattle.forest.specs.MeaningPlaces.{nests}
 use Rattle.schemas.specs.MeaningTree.{Tree, grow, treeBy, treeAt, treeOf}
 use Rattle.schemas.specs.MeaningTree.Tree.{nil, leaf, node}
-use Rattle.schemas.specs.MeaningSchemas.{Body, Mark, TypeDecl, Entity, Constraint, nameAt, noName, nameOf, namesOf, termsOf, firstOf, exprOf, bodyOf, ruled, markOf, supertypesOf, typeOf, entityOf, constraintOf, each, schemaOf, schemasOf}
+use Rattle.schemas.specs.MeaningSchemas.{Body, Mark, nameAt, noName, nameOf, namesOf, termsOf, firstOf, exprOf, bodyOf, ruled, markOf, supertypesOf, typeOf, entityOf, constraintOf, each, schemaOf, schemasOf}
 use Rattle.schemas.specs.MeaningStanding.{exprNames, termsNames, given, gather, bodyNames, markNames, typeNames, entityNames, constraintNames, schemaNames, namesIn, typeDeclared, entityDeclared, constraintDeclared, schemaDeclared, declaredIn, NameStands, TagStands, All}
 
 -- ---- a tree by places

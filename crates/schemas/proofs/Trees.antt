@@ -1,21 +1,21 @@
 -- The tree at a place: `treeAt`'s equation, in which no count of steps is left; what it is by the header that stands there; and without its places the forest.
-use mathlib.Core.Path.{_≡_, refl, sym, ap, ap₂, _∙_, subst}
+use mathlib.Core.Path.{_≡_, refl, sym, ap, ap₂, _∙_}
 use mathlib.Core.List.{List}
 use mathlib.Core.Bool.{Bool, true, false, cond}
 use Prim.Native.Nat.{ℕ, zero, suc, _+_, _-_, _<_, _≤_}
 use native.Mathlib.Nat.{not-suc-le-zero, le-refl}
 use native.Mathlib.Omega.{arith}
-use borrow.Author.Tests.{ltb-true, ltb-false, leb-true, leb-false, le-leb, lt-leb}
+use borrow.Author.Tests.{ltb-true, ltb-false, leb-true, le-leb, lt-leb}
 use lib.Dec.{ltb, leb}
 use lib.ListN.{length}
-use Rattle.sheet.specs.MeaningSheet.{tagOf, sizeOf, endOf, valueOf}
+use Rattle.sheet.specs.MeaningSheet.{tagOf, sizeOf, endOf}
 use Rattle.sheet.specs.MirrorField.{fieldAt}
 use Rattle.sheet.specs.declared.Header.{Header}
 use Rattle.sheet.specs.declared.Header.the-variants.{Field, Passes}
 use Rattle.sheet.proofs.Choosing.{either}
 use Rattle.sheet.proofs.Deciding.{Inside, inside}
 use Rattle.forest.specs.MeaningForest.{Forest}
-use Rattle.forest.specs.MeaningForest.Forest.{nil as no-fields, leaf as plain, node as nested}
+use Rattle.forest.specs.MeaningForest.Forest.{leaf as plain, node as nested}
 use Rattle.forest.specs.MeaningPlaces.{nests, forestAt}
 use Rattle.forest.proofs.Laying.{part}
 use Rattle.forest.proofs.Growing.{Grown, grown, onto as bare-in}
@@ -26,15 +26,13 @@ same-grow : (f g : ℕ → ℕ → Tree) (s : List ℕ) (at e : ℕ) → ((a b :
 unfolding grow
 same-grow f g s at e k = go (leb (endOf s at) e) refl
   where
-    go : (b : Bool) → leb (endOf s at) e ≡ b
-        → cond b (cond (nests (tagOf s at)) (node (tagOf s at) at (f (at + 3) (endOf s at)) (f (endOf s at) e)) (leaf (tagOf s at) at (valueOf s at) (f (endOf s at) e))) nil
-        ≡ cond b (cond (nests (tagOf s at)) (node (tagOf s at) at (g (at + 3) (endOf s at)) (g (endOf s at) e)) (leaf (tagOf s at) at (valueOf s at) (g (endOf s at) e))) nil
+    go : (b : Bool) → leb (endOf s at) e ≡ b → grow f s at e ≡ grow g s at e
     go true q =
         let l = leb-true (endOf s at) e q in
         let x = k (at + 3) (endOf s at) (omega arith) (omega arith) l in
         let y = k (endOf s at) e (omega arith) l (le-refl e) in
         rw (x, y)
-    go false q = refl
+    go false q = rw q refl
 
 fuel : (s : List ℕ) (n m at e : ℕ) → e - at < n → e - at < m → treeBy n s at e ≡ treeBy m s at e
 unfolding treeBy

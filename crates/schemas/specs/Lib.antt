@@ -2,5 +2,6 @@
 pub mod MeaningTree
 pub mod MeaningSchemas
 pub mod MeaningBack
+pub mod MeaningUnplaced
 pub mod MeaningStanding
 pub mod Claims

@@ -9,6 +9,9 @@ use Rattle.sheet.specs.MeaningSheet.{tagOf}
 use Rattle.expression.specs.MeaningExpression.{Expr, Terms}
 use Rattle.expression.specs.MeaningExpression.Expr.{reference, andor, «and», oneof}
 use Rattle.expression.specs.MeaningExpression.Terms.{end, _then_}
+use Rattle.forest.specs.MeaningForest.{field, encode}
+use Rattle.schemas.specs.MeaningTree.{Tree, bare}
+use Rattle.schemas.specs.MeaningTree.Tree.{nil, leaf, node}
 use Rattle.schemas.specs.MeaningSchemas.{Body, TypeDecl, Mark, Entity, Constraint, Schema}
 use Rattle.schemas.specs.MeaningSchemas.Body.{simple, enumeration, named, other}
 use Rattle.schemas.specs.MeaningSchemas.Mark.{unmarked, rule, abstract-entity, abstract-supertype}
@@ -97,3 +100,13 @@ TagStands s d = tagOf s (d .1) ≡ d .0
 abbrev pub All : {A : Type 0} → (A → Type 0) → List A → Type 0
 All P [] = Unit {0}
 All P (x ∷ xs) = P x × All P xs
+
+-- these bytes stand at a place
+abbrev pub StandAt : List ℕ → ℕ → List ℕ → Type 0
+StandAt s p b = take (length b) (drop p s) ≡ b
+
+-- every field of a tree stands at its place, whole: header, and value with the fields in it
+abbrev pub Whole : List ℕ → Tree → Type 0
+Whole s nil = Unit {0}
+Whole s (leaf t p v f) = StandAt s p (field t v) × Whole s f
+Whole s (node t p g f) = StandAt s p (field t (encode (bare g))) × Whole s g × Whole s f
