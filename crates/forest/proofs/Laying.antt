@@ -33,11 +33,11 @@ bytes-left (x ∷ xs) ys b (suc i) = bytes-left xs ys (λ j. b (suc j)) i
 
 -- ---- from bytes to a field
 
-abbrev Laid : List ℕ → ℕ → ℕ → Header → Type 0
+abbrev pub Laid : List ℕ → ℕ → ℕ → Header → Type 0
 Laid s at e Passes = Unit {0}
 Laid s at e (Field t a b) = (getD s at 0 ≡ t) × (at + 3 ≡ a) × (at + 3 + sizeOf s at ≡ b) × (b ≤ e)
 
-laid : (s : List ℕ) (at e : ℕ) → Laid s at e (fieldAt s at e)
+pub laid : (s : List ℕ) (at e : ℕ) → Laid s at e (fieldAt s at e)
 unfolding fieldAt
 laid s at e =
     either (Laid s at e) (ltb (e - at) 3) Passes _ (λ _. tt)

@@ -1,7 +1,7 @@
--- The claims of specs/Claims.antt.
+-- What is proved of sheets and forests: the laws that schemas/specs/Claims.antt tells as claims.
 use mathlib.Core.Path.{_≡_, refl, sym, ap, _∙_}
 use mathlib.Core.List.{List, _++_}
-use mathlib.Core.Logic.{Iff·trans}
+use mathlib.Core.Logic.{_↔_, Iff·trans}
 use mathlib.Core.Bool.{Bool, true, false, cond}
 use Prim.Native.Nat.{ℕ, zero, suc, _+_, _-_, _*_, _/_, _%_, _<_}
 use native.Mathlib.Nat.{not-suc-le-zero, le-refl}
@@ -16,8 +16,11 @@ use Rattle.sheet.specs.MeaningReading.{Reading}
 use Rattle.sheet.specs.MeaningGrammar.{Kind, kindOf, most-bytes, most-depth}
 use Rattle.sheet.specs.MeaningGrammar.Kind.{name, simple, empty, fields}
 use Rattle.sheet.specs.MeaningSheet.{Is}
+use Rattle.sheet.specs.Told.{told}
+use Rattle.sheet.specs.Promises.{Promise-verdict}
 use Rattle.sheet.specs.Claims.{AllBytes}
 use Rattle.sheet.specs.MirrorCheck.{walkAt, noCounts, sheetCheck}
+use Rattle.sheet.specs.declared.Judgement.{Judgement}
 use Rattle.sheet.specs.declared.Counts.{Counts}
 use Rattle.sheet.specs.declared.Checked.{Checked}
 use Rattle.sheet.specs.declared.Checked.the-variants.{Accepted, Refused}
@@ -27,14 +30,13 @@ use Rattle.sheet.proofs.Proved.{accepts-exactly}
 use Rattle.forest.specs.MeaningForest.{Forest, field, encode, Sound, Right, Fits}
 use Rattle.forest.specs.MeaningForest.Forest.{nil, leaf, node}
 use Rattle.forest.specs.MeaningPlaces.{holdsFields, nests, decode, forestOf}
-use Rattle.forest.specs.Claims.{Faults-and-forests, Accepts-forests, Reads-back, Has-its-forest, Encodes-once}
 use Rattle.forest.proofs.Laying.{part}
 use Rattle.forest.proofs.Fitting.{exactly}
 use Rattle.forest.proofs.Totalling.{fits-whole, whole-fits}
 
 -- ---- an encoding read back
 
-sound-plain : (k : Kind) (v : List ℕ) → Sound k v → holdsFields k ≡ false
+pub sound-plain : (k : Kind) (v : List ℕ) → Sound k v → holdsFields k ≡ false
 sound-plain name v x = refl
 sound-plain simple v x = refl
 sound-plain empty v x = refl
@@ -60,7 +62,7 @@ decoded rd (node t g f) p (suc n) h k =
     let y : nests t ≡ true = rw (k .1) refl in
     rw (digits (length (encode g)), z, y, take-append-seam (encode g) (encode f), drop-append-seam (encode g) (encode f), i, j)
 
-pub reads-back : Reads-back
+pub reads-back : (rd : Reading) (f : Forest) → AllBytes (encode f) → Fits rd f → forestOf (encode f) ≡ f
 unfolding forestOf
 reads-back rd f b F = decoded rd f 0 (suc (length (encode f))) (omega arith) (F .right)
 
@@ -88,7 +90,7 @@ accepted rd f b F =
     let x = exactly rd (encode f) b 0 0 0 (length (encode f)) most-depth noCounts (w .0) (le-refl (length (encode f))) (omega arith) .1 (f, sym (all-of (encode f)), w .1) in
     (w .0, rw (le-leb (length (encode f)) most-bytes (F .short)) x)
 
-pub faults-and-forests : Faults-and-forests
+pub faults-and-forests : (rd : Reading) (s : List ℕ) → AllBytes s → Is rd s (done tt) ↔ ((f : Forest) × (encode f ≡ s) × Fits rd f)
 faults-and-forests rd s b = (
   λ i. go i (sheetCheck rd s) refl,
   λ x. let bt : AllBytes (encode (x .0)) = rw (x .1) b in let w = accepted rd (x .0) bt (x .2) in check-accepts rd s b (w .0) (rw (x .1) at (w .1)),
@@ -98,15 +100,15 @@ faults-and-forests rd s b = (
     go i (Accepted c) q = encoded rd s b c q
     go i (Refused r) q = absurd (i (r .number) (r .place) (check-refuses rd s b r q .0))
 
-pub accepts-forests : Accepts-forests
+pub accepts-forests : (rd : Reading) (s : List ℕ) (r : Judgement) → AllBytes s → Promise-verdict rd s r → (told r ≡ done tt) ↔ ((f : Forest) × (encode f ≡ s) × Fits rd f)
 accepts-forests rd s r b h = Iff·trans (accepts-exactly rd s r h) (faults-and-forests rd s b)
 
-pub has-its-forest : Has-its-forest
+pub has-its-forest : (rd : Reading) (s : List ℕ) → AllBytes s → Is rd s (done tt) → (encode (forestOf s) ≡ s) × Fits rd (forestOf s)
 has-its-forest rd s b i =
     let x = faults-and-forests rd s b .0 i in
     let bt : AllBytes (encode (x .0)) = rw (x .1) b in
     let e : forestOf s ≡ x .0 = ap forestOf (sym (x .1)) ∙ reads-back rd (x .0) bt (x .2) in
     (ap encode e ∙ x .1, rw e (x .2))
 
-pub encodes-once : Encodes-once
+pub encodes-once : (rd : Reading) (f g : Forest) → AllBytes (encode f) → Fits rd f → Fits rd g → encode f ≡ encode g → f ≡ g
 encodes-once rd f g bytes x y e = sym (reads-back rd f bytes x) ∙ ap forestOf e ∙ reads-back rd g (λ i. rw (← e) (bytes i)) y

@@ -1,4 +1,3 @@
--- Meanings, then claims.
+-- Meanings.
 pub mod MeaningForest
 pub mod MeaningPlaces
-pub mod Claims

@@ -63,7 +63,8 @@ body-again other = refl
 supers-none : (o : Option (List Name)) → markOf (nowhere (supertypesBack o)) ≡ unmarked
 unfolding markOf supertypesBack
 supers-none none = refl
-supers-none (some xs) = refl
+supers-none (some []) = refl
+supers-none (some (x ∷ xs)) = refl
 
 mark-again : (m : Mark) (o : Option (List Name)) → mark0 (markOf (nowhere (markThen m (supertypesBack o)))) ≡ mark0 m
 unfolding markOf markThen exprBack
@@ -72,10 +73,12 @@ mark-again (rule e) o = rule0 (exprOf (nowhere (exprThen e no-fields))) e (optio
 mark-again abstract-entity o = refl
 mark-again (abstract-supertype e) o = ap abstract-supertype (option-again e)
 
+-- a field 34 without names is read as no names, not as no field
 supers-only : (o : Option (List Name)) → option0 (map0 name0) (supertypesOf (nowhere (supertypesBack o))) ≡ option0 (map0 name0) o
-unfolding supertypesOf supertypesBack
+unfolding supertypesOf supertypesBack namesOf namesBack
 supers-only none = refl
-supers-only (some xs) = ap some (names-again xs)
+supers-only (some []) = refl
+supers-only (some (x ∷ xs)) = ap some (names-again (x ∷ xs))
 
 supers-again : (m : Mark) (o : Option (List Name)) → option0 (map0 name0) (supertypesOf (nowhere (markThen m (supertypesBack o)))) ≡ option0 (map0 name0) o
 unfolding supertypesOf markThen

@@ -5,5 +5,7 @@ pub mod Filling
 pub mod Returning
 pub mod Again
 pub mod Laid
-pub mod Standing
+pub mod Counted
+pub mod LaidOut
+pub mod SmallSheets
 pub mod Proved

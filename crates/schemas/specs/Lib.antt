@@ -4,4 +4,6 @@ pub mod MeaningSchemas
 pub mod MeaningBack
 pub mod MeaningUnplaced
 pub mod MeaningStanding
+pub mod MeaningLayout
+pub mod MeaningExamples
 pub mod Claims
