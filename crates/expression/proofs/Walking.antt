@@ -7,6 +7,8 @@ use native.Mathlib.Numerals.{add-one}
 use native.Mathlib.Omega.{arith}
 use lib.ListN.{length, take, drop, getD, length-append, length-drop, length-take, take-append-drop, drop-of-length-le}
 use lib.Seq.{take-all, take-at, take-take, drop-at, drop-drop, getD-drop, length-take-le}
+use mir.Syntax.{w64}
+use mir.Val.{Fits}
 use borrow.Rule.Slice.PartMut.{putMid, postOf, take-put, same-len-mid}
 use Rattle.refusal.specs.MeaningAnswer.{Answer, done, refused, mapped, _>>=_}
 use Rattle.refusal.specs.declared.Refusal.{Refusal}
@@ -166,6 +168,7 @@ kept-front (done K) g l l′ r e v =
 
 -- ---- the walk over the terms, at a place, with n terms taken in
 pub record Going (kind : ℕ) (terms rows₀ factor₀ old₀ : List ℕ) (depth : ℕ) (l factor old : List ℕ) (list : Listed) (n at : ℕ) : Type 0 where
+  pub countable : length terms < 18446744073709551616
   pub within : at ≤ length terms
   pub count : n ≤ at
   pub rows-long : length l ≡ length rows₀
@@ -188,11 +191,12 @@ folded-nothing : (kind : ℕ) (v : Answer (List (List Part))) → (v >>= folded 
 folded-nothing kind (done Ls) = folded-is (kindOf kind) Ls
 folded-nothing kind (refused a b) = refl
 
-pub set-out : (kind : ℕ) (terms l factor old : List ℕ) (depth : ℕ) (own : Instantiables) → Nodes terms depth → 832 * (depth + 1) ≤ length l → 1664 ≤ length factor → 1664 ≤ length old → own ≡ record { count = 0 }
+pub set-out : (kind : ℕ) (terms l factor old : List ℕ) (depth : ℕ) (own : Instantiables) → length terms < 18446744073709551616 → Nodes terms depth → 832 * (depth + 1) ≤ length l → 1664 ≤ length factor → 1664 ≤ length old → own ≡ record { count = 0 }
     → Going kind terms l factor old depth l factor old (Rows own) 0 0
 unfolding nodeOf rows.flat flatMap
-set-out kind terms l factor old depth own w a b c e =
+set-out kind terms l factor old depth own small w a b c e =
     record {
+      countable = small;
       within = omega arith;
       count = omega arith;
       rows-long = refl;
@@ -235,6 +239,25 @@ module _ {kind : ℕ} {terms rows₀ factor₀ old₀ : List ℕ} {depth : ℕ} 
       unless-valuing (some k) o s v = record { says = refl; stands = tt }
 
   module _ (lt : at < length terms) where
+    -- what the code counts and reads on the way
+    pub third-inside : at + 2 < length terms
+    third-inside = omega (arith, ahead lt .fits, ahead lt .some-numbers)
+
+    pub span-fits : Fits w64 (getD terms (at + 2) 0)
+    span-fits = omega (arith, ahead lt .fits, g .countable)
+
+    pub end-fits : Fits w64 (at + getD terms (at + 2) 0)
+    end-fits = omega (arith, ahead lt .fits, g .countable)
+
+    pub end-inside : at + getD terms (at + 2) 0 ≤ length terms
+    end-inside = ahead lt .fits
+
+    pub one-more : Fits w64 (n + 1)
+    one-more = omega (arith, g .count, g .countable, lt)
+
+    pub nearer : length terms - (at + getD terms (at + 2) 0) < length terms - at
+    nearer = omega (arith, ahead lt .fits, ahead lt .some-numbers, lt)
+
     deep : 2 ≤ depth - 1
     deep = omega (arith, ahead lt .high, tall (ahead lt .expr), g .left-high)
 
@@ -312,6 +335,7 @@ module _ {kind : ℕ} {terms rows₀ factor₀ old₀ : List ℕ} {depth : ℕ} 
             let s : listAt list l′ ≡ g .so-far = list-is (g .so-far) (g .fine) l′ l′-room list own-stands′ in
             let good : Good L = good-child in
             record {
+              countable = g .countable;
               within = x .fits;
               count = omega (arith, g .count, x .some-numbers);
               rows-long = a ∙ rows-again;
@@ -346,3 +370,5 @@ module _ {kind : ℕ} {terms rows₀ factor₀ old₀ : List ℕ} {depth : ℕ} 
             turn =
                 let y : values (g .left) ≡ (values (ahead lt .later) >>= λ Ls. done (partsAt (v .count) ys ∷ Ls)) = ahead lt .worth ∙ simp (child-stands .0) in
                 ap (λ (u : Answer (List (List Part))). u >>= folded (kindOf kind) n (g .so-far)) y ∙ more (partsAt (v .count) ys) (values (ahead lt .later))
+
+pub ruleset walking = (set-out, ended, third-inside, span-fits, end-fits, end-inside, one-more, nearer, long-enough, rows-again, handed)

@@ -1,4 +1,4 @@
--- From the empty list: `bitand`, `bitand_part`; and one factor more of an ANDOR.
+-- From the empty list: `bitand`; and one factor more of an ANDOR.
 use Prim.Native.Nat.{ℕ, _*_, _≤_}
 use mathlib.Core.Path.{_≡_, refl, sym, ap, _∙_}
 use mathlib.Core.List.{List, _++_}
@@ -6,14 +6,10 @@ use native.Mathlib.Omega.{arith}
 use lib.ListN.{length, take, drop, length-append}
 use Rattle.refusal.specs.MeaningAnswer.{Answer}
 use Rattle.refusal.specs.declared.Refusal.{Refusal}
-use Rattle.complex_entity.specs.MeaningSets.{_∈_}
 use Rattle.complex_entity.specs.MeaningParts.{Part}
 use Rattle.complex_entity.specs.MeaningLists.{add, joins, bitand, held}
 use Rattle.complex_entity.specs.MeaningRows.{flat}
 use Rattle.complex_entity.specs.MirrorLists.{grown}
-use Rattle.complex_entity.proofs.Sets.{tidy-same}
-use Rattle.complex_entity.proofs.Orders.{part-order}
-use Rattle.complex_entity.proofs.Members.{joined, joins-old, joins-new, join-comm}
 use Rattle.instantiables.specs.declared.Instantiables.{Instantiables}
 use Rattle.instantiables.specs.declared.Listed.{Listed}
 use Rattle.instantiables.specs.declared.Listed.the-variants.{Rows, Refused}
@@ -33,15 +29,7 @@ module _ (rows : List ℕ) (l : Instantiables) (e : l ≡ record { count = 0 }) 
     unfolding partsAt
     none-joins L K g = rw e at g
 
-    pub none-swapped : (L K : List Part) → Listing (held (add (partsAt (l .count) rows) (joins K L))) rows rows′ t → Listing (held (bitand L K)) rows rows′ t
-    none-swapped L K g = rw (tidy-same part-order (joins L K) (joins K L) (λ q m. swap L K m) (λ q m. swap K L m)) (none-joins K L g)
-      where
-        swap : (L K : List Part) {q : Part} → q ∈ joins L K → q ∈ joins K L
-        swap L K m = elim (joins-old L K m) [ joined {p = p} {q = q} i j d ↦ joins-new K L (joined j i (d ∙ join-comm p q)) ]
-
 pub ruleset crossed = (none-stands, none-joins)
-
-pub ruleset swapped = (none-stands, none-swapped)
 
 -- ---- one factor more: the list as it was stands in old too
 module _ (rows old z : List ℕ) (count : ℕ) (h : Stands rows count) (e : old ≡ take (13 * count) rows ++ drop (13 * count) z) where

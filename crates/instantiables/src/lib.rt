@@ -178,20 +178,6 @@ impl Instantiables {
         Self::empty().add_joins(rows, left, lefts, right, rights)
     }
 
-    // [A, B] & C = [A & C, B & C], and C & [A, B] is the same
-    pub fn bitand_part(
-        rows: &mut [u16],
-        list: Self,
-        parts: &[u16],
-        part: PartialComplexEntity,
-    ) -> Listed
-        requires { ⌜ (1664 ≤ length (now rows)) × (13 * list .count ≤ length (now parts)) ⌝ }
-        requires { ⌜ Sets (namesOf part ∷ []) × Sets (partsAt (list .count) (now parts)) ⌝ }
-        ensures { λ r. ⌜ Listing (held (bitand (partsAt (list .count) (now (parts .entry))) (namesOf part ∷ []))) (now (rows .entry)) (now (rows .exit)) (toldListed r) ⌝ }
-    {
-        Self::empty().add_joins_with(rows, part, list, parts)
-    }
-
     // One factor more of an ANDOR: the list as it was is copied to a scratch that is lent.
     pub fn andor_step(
         self,
