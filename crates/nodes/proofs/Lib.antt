@@ -1,3 +1,5 @@
 -- The laws that the proofs of this crate cite.
-pub mod Growing
+pub mod Fields
+pub mod Saying
 pub mod Standing
+pub mod Proved

@@ -1,8 +1,9 @@
 // Expressions from bytes: nested fields are read, and their nodes built in lent memory.
 ghost use mathlib.Core.Path.{_≡_};
 ghost use Prim.Native.Nat.{ℕ, _+_, _≤_, _<_, _^_};
-ghost use lib.ListN.{length};
-ghost use Rattle.nodes.specs.MirrorBuilding.{Behind, ANode, SomeNodes};
+ghost use lib.ListN.{length, drop};
+ghost use Rattle.nodes.specs.MeaningBytes.{fieldOf};
+ghost use Rattle.nodes.specs.MirrorBuilding.{Ends, Reads, an-expression, some-terms};
 use expression::NODE;
 use expression::REFERENCE;
 use expression::put_node;
@@ -24,7 +25,7 @@ const LAST_TAG: u8 = 83;
 // Where the field ends that begins here: past all bytes where its header is cut.
 fn field_end(fields: &[u8], at: usize) -> usize
     requires { ⌜ at ≤ length (now fields) ⌝ }
-    ensures { λ r. ⌜ at + 3 ≤ r ⌝ }
+    ensures { λ r. ⌜ Ends (now (fields .entry)) at r ⌝ }
 {
     if fields.len() - at < HEADER {
         return fields.len() + HEADER;
@@ -34,8 +35,8 @@ fn field_end(fields: &[u8], at: usize) -> usize
 
 // A reference holds two bytes: its index, which is at most 255.
 fn read_reference(field: &[u8], nodes: &mut [u16], used: usize) -> Built
-    requires { ⌜ used + 3 ≤ length (now nodes) ⌝ }
-    ensures { λ r. ⌜ ((n : ℕ) → r ≡ Built.Used n → Behind (ANode 2) used n (now (nodes .entry)) (now (nodes .exit))) ⌝ }
+    requires { ⌜ (used + 3 ≤ length (now nodes)) × (now field ≡ fieldOf 80 (drop 3 (now field))) ⌝ }
+    ensures { λ r. ⌜ ((calls : ℕ) → 2 ≤ calls → Reads an-expression (now (field .entry)) calls used (now (nodes .entry)) (now (nodes .exit)) r) ⌝ }
 {
     if field.len() != HEADER + 2 {
         return Built::Missing;
@@ -50,7 +51,7 @@ fn read_reference(field: &[u8], nodes: &mut [u16], used: usize) -> Built
 // The expression that a field is goes behind the numbers that are used. The depth falls at each call, and a level takes two.
 pub fn read_node(field: &[u8], nodes: &mut [u16], used: usize, depth: usize) -> Built
     requires { ⌜ (used ≤ length (now nodes)) × (length (now nodes) < 2 ^ 16) ⌝ }
-    ensures { λ r. ⌜ ((n : ℕ) → r ≡ Built.Used n → Behind (ANode depth) used n (now (nodes .entry)) (now (nodes .exit))) ⌝ }
+    ensures { λ r. ⌜ Reads an-expression (now (field .entry)) depth used (now (nodes .entry)) (now (nodes .exit)) r ⌝ }
 {
     if depth < 2 {
         return Built::Missing;
@@ -84,7 +85,7 @@ pub fn read_node(field: &[u8], nodes: &mut [u16], used: usize, depth: usize) -> 
 // The expressions that fields are, one after the other.
 pub fn read_terms(fields: &[u8], nodes: &mut [u16], used: usize, depth: usize) -> Built
     requires { ⌜ (used ≤ length (now nodes)) × (length (now nodes) < 2 ^ 16) × (1 ≤ depth) ⌝ }
-    ensures { λ r. ⌜ ((n : ℕ) → r ≡ Built.Used n → Behind (SomeNodes depth) used n (now (nodes .entry)) (now (nodes .exit))) ⌝ }
+    ensures { λ r. ⌜ Reads some-terms (now (fields .entry)) depth used (now (nodes .entry)) (now (nodes .exit)) r ⌝ }
 {
     let mut at = 0;
     let mut next = used;

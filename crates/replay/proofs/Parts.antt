@@ -1,12 +1,12 @@
 -- Laws of the parts of arrays that are handed over: they end inside, and the nodes that were read are an expression's.
-use mathlib.Core.Path.{_≡_}
+use mathlib.Core.Path.{_≡_, refl}
 use mathlib.Core.List.{List}
 use Prim.Native.Nat.{ℕ, _-_, _≤_}
 use native.Mathlib.Omega.{arith}
 use lib.ListN.{length, take}
 use lib.Seq.{length-take-le}
 use Rattle.expression.specs.MirrorNodes.{Node}
-use Rattle.nodes.specs.MirrorBuilding.{Behind, ANode}
+use Rattle.nodes.specs.MirrorBuilding.{an-expression, Reads}
 use Rattle.nodes.specs.declared.Built.{Built}
 use Rattle.nodes.specs.declared.Built.the-variants.{Used}
 use Rattle.lines.specs.Places.{Filled}
@@ -29,13 +29,13 @@ lent-short r n buffer e f g =
     omega (arith, length-take-le (n - 0) buffer (omega arith))
 
 -- the nodes that were read
-pub nodes-inside : (r : Built) (n : ℕ) (before after : List ℕ) → r ≡ Used n → ((m : ℕ) → r ≡ Used m → Behind (ANode 12) 0 m before after) → n ≤ length after
-nodes-inside r n before after e f = f n e .inside
+pub nodes-inside : {bytes : List ℕ} (r : Built) (n : ℕ) (before after : List ℕ) → r ≡ Used n → Reads an-expression bytes 12 0 before after r → n ≤ length after
+nodes-inside r n before after e f = f .only n e .inside
 
-pub nodes-stand : (r : Built) (n : ℕ) (before after : List ℕ) → r ≡ Used n → ((m : ℕ) → r ≡ Used m → Behind (ANode 12) 0 m before after) → Node (take (n - 0) after) 12
+pub nodes-stand : {bytes : List ℕ} (r : Built) (n : ℕ) (before after : List ℕ) → r ≡ Used n → Reads an-expression bytes 12 0 before after r → Node (take (n - 0) after) 12
 nodes-stand r n before after e f =
-    let b = f n e in
+    let b = f .only n e in
     let same : n - 0 ≡ n = omega arith in
-    rw (same, b .front) (b .sort)
+    rw (same, b .front) (record { expr = b .thing; is = refl; high = b .deep })
 
 pub ruleset parts = (decoded-inside, lent-inside)

@@ -1,6 +1,8 @@
 -- Two bytes make a length that fits.
+use mathlib.Core.Path.{refl}
 use Prim.Native.Nat.{_+_}
 use native.Mathlib.Omega.{arith}
+use Rattle.nodes.proofs.Fields.{cut, whole}
 use borrow.Author.Needs.{needs}
 use Rattle.nodes.proofs.field_end.Statement.{statement}
 use Rattle.nodes.proofs.field_end.Tie as tie
@@ -12,7 +14,7 @@ add-result : tie.Need-add-result
 add-result c = search needs
 
 returns : tie.Need-returns
-returns c = search needs
+returns c = cut _ _ (c .before .pre) (c .if1 .taken)
 
 add-result-2 : tie.Need-add-result-2
 add-result-2 c = search needs
@@ -45,7 +47,7 @@ add-result-6 : tie.Need-add-result-6
 add-result-6 c = omega (arith, c .shared-slice-known2 .given (c .before .before .before .args .at + 2), c .before .shared-slice-known .given (c .before .before .before .args .at + 1))
 
 returns-2 : tie.Need-returns-2
-returns-2 c = search needs
+returns-2 c = whole _ (c .before .before .before .args .at) _ _ _ (omega arith) (c .before .before .if1 .left) refl refl (omega (arith, c .shared-slice-known2 .given (c .before .before .before .args .at + 2)))
 
 pub field-end-spec : {M : Type 1} → statement M
 field-end-spec =
