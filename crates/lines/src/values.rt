@@ -36,6 +36,19 @@ pub fn decimal_of(word: &[u8]) -> Number
     Number::Is(value)
 }
 
+// The same, if it is at most so large.
+pub fn decimal_to(word: &[u8], most: usize) -> Number
+    ensures { λ r. ⌜ AtMost most r ⌝ }
+{
+    let Number::Is(value) = decimal_of(word) else {
+        return Number::Missing;
+    };
+    if most < value {
+        return Number::Missing;
+    }
+    Number::Is(value)
+}
+
 // The bytes of a word, two digits each, go to the front of `out`.
 pub fn bytes(word: &[u8], out: &mut [u8]) -> Number
     ensures { λ r. ⌜ Decoded r (now (out .entry)) (now (out .exit)) ⌝ }

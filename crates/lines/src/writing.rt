@@ -49,14 +49,36 @@ pub fn hex(out: &mut [u8], at: usize, numbers: &[u16]) -> usize
     end
 }
 
+// The word of some bytes.
+pub fn hex_bytes(out: &mut [u8], at: usize, bytes: &[u8]) -> usize
+    ensures { λ r. ⌜ Written at r (now (out .entry)) (now (out .exit)) ⌝ }
+{
+    if bytes.len() == 0 {
+        return put(out, at, b'-');
+    }
+    let mut end = at;
+    let mut i = 0;
+    while i < bytes.len() {
+        end = two(out, end, bytes[i]);
+        i += 1;
+    }
+    end
+}
+
 // The four hex digits of a number.
 fn four(out: &mut [u8], at: usize, number: u16) -> usize
     ensures { λ r. ⌜ Written at r (now (out .entry)) (now (out .exit)) ⌝ }
 {
-    let value = number as usize;
-    let second = put(out, at, glyph(value / 4096 % 16));
-    let third = put(out, second, glyph(value / 256 % 16));
-    let last = put(out, third, glyph(value / 16 % 16));
+    let middle = two(out, at, (number / 256) as u8);
+    two(out, middle, (number % 256) as u8)
+}
+
+// The two hex digits of a byte.
+fn two(out: &mut [u8], at: usize, byte: u8) -> usize
+    ensures { λ r. ⌜ Written at r (now (out .entry)) (now (out .exit)) ⌝ }
+{
+    let value = byte as usize;
+    let last = put(out, at, glyph(value / 16));
     put(out, last, glyph(value % 16))
 }
 

@@ -1,7 +1,7 @@
--- Laws of the parts of arrays that are handed over: they end inside, and the nodes that were read are an expression's.
+-- Laws of what is handed over: parts of arrays end inside, an index fits, and the nodes that were read are an expression's.
 use mathlib.Core.Path.{_≡_, refl}
 use mathlib.Core.List.{List}
-use Prim.Native.Nat.{ℕ, _-_, _≤_}
+use Prim.Native.Nat.{ℕ, _-_, _≤_, _<_}
 use native.Mathlib.Omega.{arith}
 use lib.ListN.{length, take}
 use lib.Seq.{length-take-le}
@@ -18,7 +18,14 @@ use Rattle.lines.specs.declared.values.Number.the-variants.{Is}
 pub decoded-inside : (r : Number) (n : ℕ) (before after : List ℕ) → r ≡ Is n → Decoded r before after → n ≤ length after
 decoded-inside r n before after e f = let g : Filled n before after = rw e at f in g .inside
 
+-- an index fits a number of 16 bits
+pub index-fits : (r : Number) (n : ℕ) → r ≡ Is n → AtMost 65535 r → n < 65536
+index-fits r n e f = let g : n ≤ 65535 = rw e at f in omega arith
+
 -- what is lent of a buffer
+pub lent-within : (r : Number) (before after : List ℕ) → length after ≡ length before → length before ≡ 1664 → AtMost 1664 r → AtMost (length after) r
+lent-within r before after e f g = rw (e, f) g
+
 pub lent-inside : (r : Number) (n : ℕ) (buffer : List ℕ) → r ≡ Is n → AtMost (length buffer) r → n ≤ length buffer
 lent-inside r n buffer e f = rw e at f
 
@@ -38,4 +45,4 @@ nodes-stand r n before after e f =
     let same : n - 0 ≡ n = omega arith in
     rw (same, b .front) (record { expr = b .thing; is = refl; high = b .deep })
 
-pub ruleset parts = (decoded-inside, lent-inside)
+pub ruleset parts = (decoded-inside, index-fits, lent-within, lent-inside)

@@ -1,8 +1,10 @@
-// Answers in words: what was listed, compared, judged or refused, and what changed in the lent buffer.
+// Answers in words: what was listed, found, compared, judged or refused, and what changed in the lent buffer.
 use algebra::Compared;
 use complex_entity::Order;
 use instantiables::Listed;
+use namespace::Found;
 use refusal::Refusal;
+use scope::Verdict;
 use sheet::Judgement;
 
 // The longest buffer that is lent.
@@ -21,17 +23,43 @@ pub fn listed(out: &mut [u8], told: Listed, buffer: &[u16; BUFFER]) -> usize {
 fn counted(out: &mut [u8], told: Listed) -> usize {
     match told {
         Listed::Refused(why) => refused(out, why),
-        Listed::Rows(list) => {
-            let start = lines::text(out, 0, b"ok ");
-            lines::decimal(out, start, list.count)
-        }
+        Listed::Rows(list) => number(out, list.count),
     }
+}
+
+pub fn found(out: &mut [u8], told: Found) -> usize {
+    match told {
+        Found::Refused(why) => refused(out, why),
+        Found::Number(index) => number(out, index as usize),
+    }
+}
+
+fn number(out: &mut [u8], value: usize) -> usize {
+    let start = lines::text(out, 0, b"ok ");
+    lines::decimal(out, start, value)
+}
+
+// A part of a sheet.
+pub fn part(out: &mut [u8], bytes: &[u8]) -> usize {
+    let start = lines::text(out, 0, b"ok ");
+    lines::hex_bytes(out, start, bytes)
 }
 
 pub fn compared(out: &mut [u8], told: Compared) -> usize {
     match told {
         Compared::Refused(why) => refused(out, why),
         Compared::Is(order) => ordered(out, order),
+    }
+}
+
+// Scopes may be unordered.
+pub fn placed(out: &mut [u8], told: scope::Compared) -> usize {
+    match told {
+        scope::Compared::Refused(why) => refused(out, why),
+        scope::Compared::Less => ordered(out, Order::Less),
+        scope::Compared::Equal => ordered(out, Order::Same),
+        scope::Compared::Greater => ordered(out, Order::More),
+        scope::Compared::Unordered => lines::text(out, 0, b"ok none"),
     }
 }
 
@@ -47,6 +75,13 @@ pub fn judged(out: &mut [u8], told: Judgement) -> usize {
     match told {
         Judgement::Refused(why) => refused(out, why),
         Judgement::Accepted => lines::text(out, 0, b"ok"),
+    }
+}
+
+pub fn cleared(out: &mut [u8], told: Verdict) -> usize {
+    match told {
+        Verdict::Refused(why) => refused(out, why),
+        Verdict::Done => lines::text(out, 0, b"ok"),
     }
 }
 

@@ -1,8 +1,9 @@
-// Answers the questions on parts, lists, expressions and sheets, a line each, from standard input to standard output.
+// Answers the questions on parts, lists, expressions, sheets and names, a line each, from standard input to standard output.
 ghost use Prim.Native.Nat.{_≤_};
 ghost use lib.ListN.{length};
 
 mod answers;
+mod names;
 mod operators;
 mod questions;
 mod valuing;

@@ -4,9 +4,10 @@ ghost use Rattle.lines.specs.Values.{AtMost};
 ghost use Rattle.expression.specs.MirrorNodes.{Node};
 use crate::answers::BUFFER;
 use crate::answers::compared;
-use crate::answers::judged;
 use crate::answers::listed;
 use crate::answers::unknown;
+use crate::names::of_sheet;
+use crate::names::scope_order;
 use crate::operators::ask;
 use crate::valuing::value;
 use expression::DEPTH;
@@ -17,9 +18,6 @@ use nodes::read_node;
 // The longest word of numbers that is asked has 130 rows.
 const WORD: usize = 1690;
 
-// The longest sheet that is asked has 65,536 bytes.
-const SHEET: usize = 65600;
-
 // An expression that is asked has at most 513 nodes, of at most five bytes and of three numbers each.
 const FIELDS: usize = 2565;
 
@@ -28,8 +26,11 @@ const NODES: usize = 1539;
 // Writes the answer to a line; answers its length.
 pub fn answer(line: &[u8], out: &mut [u8]) -> usize {
     let name = lines::word(line, 0);
-    if lines::is(name, b"verdict") {
-        return verdict(line, out);
+    if lines::among(name, b"verdict resolve get schema_name item_name as_path") {
+        return of_sheet(line, out);
+    }
+    if lines::is(name, b"scope_order") {
+        return scope_order(line, out);
     }
     if lines::is(name, b"eval") {
         return eval(line, out);
@@ -50,14 +51,6 @@ pub fn answer(line: &[u8], out: &mut [u8]) -> usize {
         return of_two(line, out);
     }
     unknown(out)
-}
-
-fn verdict(line: &[u8], out: &mut [u8]) -> usize {
-    let mut bytes = [0u8; SHEET];
-    let Number::Is(count) = lines::bytes(lines::word(line, 1), &mut bytes) else {
-        return unknown(out);
-    };
-    judged(out, sheet::verdict(&bytes[0..count]))
 }
 
 fn eval(line: &[u8], out: &mut [u8]) -> usize {
@@ -99,12 +92,9 @@ fn new(line: &[u8], out: &mut [u8]) -> usize {
 
 fn single(line: &[u8], out: &mut [u8]) -> usize {
     let mut buffer = [0u16; BUFFER];
-    let Number::Is(index) = lines::decimal_of(lines::word(line, 1)) else {
+    let Number::Is(index) = lines::decimal_to(lines::word(line, 1), 65535) else {
         return unknown(out);
     };
-    if 65535 < index {
-        return unknown(out);
-    }
     let Number::Is(size) = lend(lines::word(line, 2), &mut buffer) else {
         return unknown(out);
     };
@@ -144,12 +134,6 @@ fn lend(word: &[u8], buffer: &mut [u16; BUFFER]) -> Number
     ensures within { λ r. ⌜ AtMost (length (now (buffer .exit))) r ⌝ }
     ensures small { λ r. ⌜ AtMost 1664 r ⌝ }
 {
-    let Number::Is(size) = lines::decimal_of(word) else {
-        return Number::Missing;
-    };
-    if BUFFER < size {
-        return Number::Missing;
-    }
     lines::lend(buffer);
-    Number::Is(size)
+    lines::decimal_to(word, BUFFER)
 }

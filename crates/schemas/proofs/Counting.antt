@@ -19,16 +19,16 @@ use Rattle.schemas.specs.MeaningSchemas.{each, schemaOf, schemasOf}
 use Rattle.schemas.proofs.Trees.{onto, Grows, grows}
 
 -- fields with a tag that holds fields, one by one
-each-here : {A : Type 0} (u p : ℕ) (read : ℕ → Tree → A) (v : List ℕ) (g f : Tree) → each u read (onto true u p v g f) ≡ read p g ∷ each u read f
+pub each-here : {A : Type 0} (u p : ℕ) (read : ℕ → Tree → A) (v : List ℕ) (g f : Tree) → each u read (onto true u p v g f) ≡ read p g ∷ each u read f
 unfolding each
 each-here u p read v g f = rw (eq-eqb u u refl)
 
-each-other : {A : Type 0} (u t p : ℕ) (read : ℕ → Tree → A) (b : Bool) (v : List ℕ) (g f : Tree) → (t ≡ u → ⊥) → each u read (onto b t p v g f) ≡ each u read f
+pub each-other : {A : Type 0} (u t p : ℕ) (read : ℕ → Tree → A) (b : Bool) (v : List ℕ) (g f : Tree) → (t ≡ u → ⊥) → each u read (onto b t p v g f) ≡ each u read f
 unfolding each
 each-other u t p read true v g f d = rw (ne-eqb t u d)
 each-other u t p read false v g f d = refl
 
-nests-schema : nests 0x01 ≡ true
+pub nests-schema : nests 0x01 ≡ true
 unfolding kindOf oneOf
 nests-schema = refl
 

@@ -168,11 +168,11 @@ pub step-back : (q : List ℕ) (x : Step) → Lies q (x .name) → stepIn q (run
 unfolding stepIn rungOf
 step-back q x l = let n : x .name .at + length (x .name .bytes) - x .name .at ≡ length (x .name .bytes) = omega arith in rw (kind-back (x .kind), n, l .there) refl
 
-spans-of : (q : List ℕ) (x : Step) → Lies q (x .name) → Spans q (rungOf x)
+pub spans-of : (q : List ℕ) (x : Step) → Lies q (x .name) → Spans q (rungOf x)
 unfolding rungOf
 spans-of q x l = record { ordered = omega arith; inside = l .within }
 
-spans-none : (q : List ℕ) → Spans q noRung
+pub spans-none : (q : List ℕ) → Spans q noRung
 spans-none q = record { ordered = omega arith; inside = omega arith }
 
 abbrev pub AllLie : List ℕ → List Step → Type 0

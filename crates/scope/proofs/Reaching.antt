@@ -34,7 +34,7 @@ pub record Lies (q : List ℕ) (x : Name) : Type 0 where
   pub within : stop x ≤ length q
   pub there : take (length (x .bytes)) (drop (x .at) q) ≡ x .bytes
 
-abbrev NameLies : List ℕ → Option Name → Type 0
+abbrev pub NameLies : List ℕ → Option Name → Type 0
 NameLies q none = Unit {0}
 NameLies q (some x) = Lies q x
 
@@ -42,7 +42,7 @@ abbrev pub StepLies : List ℕ → Option Step → Type 0
 StepLies q none = Unit {0}
 StepLies q (some x) = Lies q (x .name)
 
-name-lies : (q : List ℕ) (at : ℕ) → NameLies q (nameAt q at)
+pub name-lies : (q : List ℕ) (at : ℕ) → NameLies q (nameAt q at)
 unfolding nameAt
 name-lies q at = either (NameLies q) (leb (endOf q at) (length q) && isName (valueOf q at)) _ none there (λ _. tt)
   where

@@ -1,32 +1,20 @@
--- Four digits are written one after another.
+-- Two digits are written, then two more.
 use borrow.Author.Needs.{needs}
 use Rattle.lines.proofs.Writes.{writes}
 use Rattle.lines.proofs.writing.four.Statement.{statement}
 use Rattle.lines.proofs.writing.four.Tie as tie
 
-glyph-requires : tie.Need-glyph-requires
-glyph-requires c κs = search needs
+cast-two : tie.Need-cast-two
+cast-two c = search needs
 
-put-requires : tie.Need-put-requires
-put-requires c κs = search needs
+two-requires : tie.Need-two-requires
+two-requires c κs = search needs
 
-glyph-requires-2 : tie.Need-glyph-requires-2
-glyph-requires-2 c κs = search needs
+cast-two-2 : tie.Need-cast-two-2
+cast-two-2 c = search needs
 
-put-requires-2 : tie.Need-put-requires-2
-put-requires-2 c κs = search needs
-
-glyph-requires-3 : tie.Need-glyph-requires-3
-glyph-requires-3 c κs = search needs
-
-put-requires-3 : tie.Need-put-requires-3
-put-requires-3 c κs = search needs
-
-glyph-requires-4 : tie.Need-glyph-requires-4
-glyph-requires-4 c κs = search needs
-
-put-requires-4 : tie.Need-put-requires-4
-put-requires-4 c κs = search needs
+two-requires-2 : tie.Need-two-requires-2
+two-requires-2 c κs = search needs
 
 same-length : tie.Need-same-length
 same-length c = search needs
@@ -36,15 +24,4 @@ returns c = search (writes, needs)
 
 pub four-spec : {M : Type 1} → statement M
 four-spec =
-    tie.close
-    (tie.spec
-    glyph-requires
-    put-requires
-    glyph-requires-2
-    put-requires-2
-    glyph-requires-3
-    put-requires-3
-    glyph-requires-4
-    put-requires-4
-    same-length
-    returns)
+    tie.close (tie.spec cast-two two-requires cast-two-2 two-requires-2 same-length returns)

@@ -1,4 +1,4 @@
--- The lent numbers are within the buffer.
+-- The index fits, and the lent numbers are within the buffer.
 use borrow.Author.Needs.{needs}
 use Rattle.replay.proofs.Parts.{parts}
 use Rattle.replay.proofs.questions.single.Statement.{statement}
@@ -7,8 +7,8 @@ use Rattle.replay.proofs.questions.single.Tie as tie
 word-requires : tie.Need-word-requires
 word-requires c κs = search needs
 
-decimal-of-requires : tie.Need-decimal-of-requires
-decimal-of-requires c κs = search needs
+decimal-to-requires : tie.Need-decimal-to-requires
+decimal-to-requires c κs = search needs
 
 enum-known-index : tie.Need-enum-known-index
 enum-known-index c = search needs
@@ -25,15 +25,6 @@ same-length c = search needs
 returns : tie.Need-returns
 returns c = search needs
 
-unknown-requires-2 : tie.Need-unknown-requires-2
-unknown-requires-2 c κs = search needs
-
-same-length-2 : tie.Need-same-length-2
-same-length-2 c = search needs
-
-returns-2 : tie.Need-returns-2
-returns-2 c = search needs
-
 word-requires-2 : tie.Need-word-requires-2
 word-requires-2 c κs = search needs
 
@@ -46,17 +37,17 @@ enum-known-size c = search needs
 enum-told-2 : tie.Need-enum-told-2
 enum-told-2 c = search needs
 
-unknown-requires-3 : tie.Need-unknown-requires-3
-unknown-requires-3 c κs = search needs
+unknown-requires-2 : tie.Need-unknown-requires-2
+unknown-requires-2 c κs = search needs
 
-same-length-3 : tie.Need-same-length-3
-same-length-3 c = search needs
+same-length-2 : tie.Need-same-length-2
+same-length-2 c = search needs
 
-returns-3 : tie.Need-returns-3
-returns-3 c = search needs
+returns-2 : tie.Need-returns-2
+returns-2 c = search needs
 
 cast-single : tie.Need-cast-single
-cast-single c = search needs
+cast-single c = search (parts, needs)
 
 sub-single : tie.Need-sub-single
 sub-single c = search needs
@@ -73,38 +64,35 @@ single-requires c κs = search needs
 listed-requires : tie.Need-listed-requires
 listed-requires c κs = search needs
 
-same-length-4 : tie.Need-same-length-4
-same-length-4 c = search needs
+same-length-3 : tie.Need-same-length-3
+same-length-3 c = search needs
 
-returns-4 : tie.Need-returns-4
-returns-4 c = search needs
+returns-3 : tie.Need-returns-3
+returns-3 c = search needs
 
 pub single-spec : {M : Type 1} → statement M
 single-spec =
     tie.close
     (tie.spec
     word-requires
-    decimal-of-requires
+    decimal-to-requires
     enum-known-index
     enum-told
     unknown-requires
     same-length
     returns
-    unknown-requires-2
-    same-length-2
-    returns-2
     word-requires-2
     lend-requires
     enum-known-size
     enum-told-2
-    unknown-requires-3
-    same-length-3
-    returns-3
+    unknown-requires-2
+    same-length-2
+    returns-2
     cast-single
     sub-single
     part-buffer-start
     part-buffer-end
     single-requires
     listed-requires
-    same-length-4
-    returns-4)
+    same-length-3
+    returns-3)

@@ -1,8 +1,8 @@
 -- The bytes that were read are within their array.
 use borrow.Author.Needs.{needs}
 use Rattle.replay.proofs.Parts.{parts}
-use Rattle.replay.proofs.questions.verdict.Statement.{statement}
-use Rattle.replay.proofs.questions.verdict.Tie as tie
+use Rattle.replay.proofs.names.of_sheet.Statement.{statement}
+use Rattle.replay.proofs.names.of_sheet.Tie as tie
 
 word-requires : tie.Need-word-requires
 word-requires c κs = search needs
@@ -28,20 +28,17 @@ same-length c = search needs
 returns : tie.Need-returns
 returns c = search needs
 
-sub-verdict : tie.Need-sub-verdict
-sub-verdict c = search needs
+sub-of-bytes : tie.Need-sub-of-bytes
+sub-of-bytes c = search needs
 
-part-verdict-start : tie.Need-part-verdict-start
-part-verdict-start c = search needs
+part-of-bytes-start : tie.Need-part-of-bytes-start
+part-of-bytes-start c = search needs
 
-part-verdict-end : tie.Need-part-verdict-end
-part-verdict-end c = search (parts, needs)
+part-of-bytes-end : tie.Need-part-of-bytes-end
+part-of-bytes-end c = search (parts, needs)
 
-verdict-requires : tie.Need-verdict-requires
-verdict-requires c κs = search needs
-
-judged-requires : tie.Need-judged-requires
-judged-requires c κs = search needs
+of-bytes-requires : tie.Need-of-bytes-requires
+of-bytes-requires c κs = search needs
 
 same-length-2 : tie.Need-same-length-2
 same-length-2 c = search needs
@@ -49,8 +46,8 @@ same-length-2 c = search needs
 returns-2 : tie.Need-returns-2
 returns-2 c = search needs
 
-pub verdict-spec : {M : Type 1} → statement M
-verdict-spec =
+pub of-sheet-spec : {M : Type 1} → statement M
+of-sheet-spec =
     tie.close
     (tie.spec
     word-requires
@@ -61,10 +58,9 @@ verdict-spec =
     unknown-requires
     same-length
     returns
-    sub-verdict
-    part-verdict-start
-    part-verdict-end
-    verdict-requires
-    judged-requires
+    sub-of-bytes
+    part-of-bytes-start
+    part-of-bytes-end
+    of-bytes-requires
     same-length-2
     returns-2)

@@ -1,0 +1,11 @@
+-- The laws that the proofs cite.
+pub mod Factors
+pub mod Finding
+pub mod Ordering
+pub mod Renaming
+pub mod Streams
+pub mod Asking
+pub mod Putting
+pub mod Combining
+pub mod Gathered
+pub mod Proved

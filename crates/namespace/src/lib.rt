@@ -1,0 +1,463 @@
+// after espr/src/ir/namespace.rs of ruststep cd89e5a7cd, Apache-2.0; changed
+//
+// The declarations of a sheet by number: `resolve`, `get`, `as_path`, and the order of refusals of every question on a sheet.
+ghost use mathlib.Core.Path.{_≡_};
+ghost use mathlib.Core.Bool.{true};
+ghost use Prim.Native.Nat.{_≤_, _+_, _-_};
+ghost use lib.ListN.{length};
+ghost use Rattle.refusal.specs.MeaningAnswer.{done};
+ghost use Rattle.sheet.specs.MeaningReading.Reading.{rust};
+ghost use Rattle.sheet.specs.Told.{toldReading};
+ghost use Rattle.schemas.specs.MeaningTree.{treeAt};
+ghost use Rattle.scope.specs.MeaningScope.{sameScope};
+ghost use Rattle.scope.specs.Told.{toldKind};
+ghost use Rattle.scope.specs.MirrorScope.{Spans, stepsIn};
+ghost use Rattle.namespace.specs.MeaningNamespace.{entriesFrom, last, declarations, declarationFor, resolved, schemaName, itemName};
+ghost use Rattle.namespace.specs.MeaningOrder.{schemasIn, Answers};
+ghost use Rattle.namespace.specs.Told.{toldVerdict};
+ghost use Rattle.namespace.specs.Promises.{Promise-resolve, Promise-get, Promise-part, Promise-path};
+ghost use Rattle.namespace.specs.MirrorNamespace.{schemaScope, pathTo, pathOut, Small, soughtOf, sizeIn, inSchema, inKind, Houses, meantIn};
+ghost use Rattle.namespace.specs.MirrorDeclared.{StandsAt, InFields};
+use lookup::Place;
+use lookup::Sought;
+use lookup::count;
+use lookup::has_name;
+use lookup::look;
+use lookup::name_of;
+use lookup::nth;
+use refusal::Refusal;
+use scope::Path;
+use scope::Scope;
+use scope::ScopeType;
+use scope::Verdict;
+use scope::read_path;
+use scope::read_resolve;
+use sheet::Header;
+use sheet::Judgement;
+use sheet::Reading;
+use sheet::field_at;
+use sheet::verdict_in;
+
+// A declaration's number, or why there is none.
+pub enum Found {
+    Number(u16),
+    Refused(Refusal),
+}
+
+// Where the last schema of a name stands, and the number of its first declaration.
+pub enum Home {
+    At {
+        first: usize,
+        start: usize,
+        stop: usize,
+    },
+    Nowhere,
+}
+
+// Where a declaration stands: its schema's value, its own field's tag and value; or by how many there are fewer.
+pub enum Declared {
+    At {
+        schema_start: usize,
+        schema_stop: usize,
+        tag: u8,
+        start: usize,
+        stop: usize,
+    },
+    Past(usize),
+}
+
+const MOST_BYTES: usize = 65535;
+
+// ---- The order of refusals, once for every question: 1, 2, the sheet's faults, then what was asked.
+
+pub fn cleared(reading: Reading, sheet: &[u8], long: bool, asked: Verdict) -> Verdict
+    ensures { λ r. ⌜ Answers (toldReading reading) (now (sheet .entry)) long (toldVerdict asked) (λ u. done tt) (toldVerdict r) ⌝ }
+{
+    if MOST_BYTES < sheet.len() {
+        return Verdict::Refused(Refusal::of(1));
+    }
+    if !long {
+        return Verdict::Refused(Refusal::of(2));
+    }
+    match verdict_in(reading, sheet) {
+        Judgement::Accepted => asked,
+        Judgement::Refused(why) => Verdict::Refused(why),
+    }
+}
+
+// ---- Walks over one schema.
+
+// How many declarations it has.
+fn size(s: &[u8], at: usize, end: usize) -> usize
+    requires { ⌜ (at ≤ end) × (end ≤ length (now s)) × (end ≤ 65535) ⌝ }
+    ensures { λ r. ⌜ (r ≡ sizeIn (treeAt (now (s .entry)) at end)) × (r ≤ 65535) ⌝ }
+{
+    let types = count(s, at, end, 0x20);
+    let entities = count(s, at, end, 0x30);
+    types + entities
+}
+
+// The number of the first equal name, types first.
+fn in_schema(reading: Reading, s: &[u8], at: usize, end: usize, name: &[u8], first: usize) -> Sought
+    requires { ⌜ (at ≤ end) × (end ≤ length (now s)) × (first + (end - at) ≤ 65535) ⌝ }
+    ensures { λ r. ⌜ (r ≡ inSchema (toldReading reading) (now (name .entry)) (treeAt (now (s .entry)) at end) first) × Small r ⌝ }
+{
+    let r = look(reading, s, at, end, 0x20, name, first);
+    let Sought::Past(n) = r else {
+        return r;
+    };
+    look(reading, s, at, end, 0x30, name, n)
+}
+
+// The number of the first equal name of a kind.
+fn in_kind(
+    reading: Reading,
+    s: &[u8],
+    at: usize,
+    end: usize,
+    kind: ScopeType,
+    name: &[u8],
+    first: usize,
+) -> Sought
+    requires { ⌜ (at ≤ end) × (end ≤ length (now s)) × (first + (end - at) ≤ 65535) ⌝ }
+    ensures { λ r. ⌜ (r ≡ inKind (toldReading reading) (toldKind kind) (now (name .entry)) (treeAt (now (s .entry)) at end) first) × Small r ⌝ }
+{
+    let k = kind.place();
+    if k == 9 {
+        return look(reading, s, at, end, 0x20, name, first);
+    }
+    if k == 0 {
+        let types = count(s, at, end, 0x20);
+        return look(reading, s, at, end, 0x30, name, first + types);
+    }
+    Sought::Past(0)
+}
+
+// ---- Walks over the schemas of a sheet.
+
+// The last schema of the name.
+fn last_schema(reading: Reading, sheet: &[u8], scope: &[u8]) -> Home
+    requires { ⌜ length (now sheet) ≤ 65535 ⌝ }
+    ensures { λ r. ⌜ Houses (now (sheet .entry)) r (last (λ e. sameScope (toldReading reading) (e .scope) (schemaScope (now (scope .entry)))) (entriesFrom 0 (schemasIn (now (sheet .entry))))) ⌝ }
+{
+    let end = sheet.len();
+    let mut best = Home::Nowhere;
+    let mut first: usize = 0;
+    let mut from: usize = 0;
+    loop {
+        let Header::Field { tag, start, stop } = field_at(sheet, from, end) else {
+            return best;
+        };
+        if tag == 1 {
+            let more = size(sheet, start, stop);
+            if has_name(reading, sheet, start, stop, scope) {
+                best = Home::At { first, start, stop };
+                first += more;
+                from = stop;
+            } else {
+                first += more;
+                from = stop;
+            }
+        } else {
+            from = stop;
+        }
+    }
+}
+
+// The number of the first declaration of a kind and a name in a schema of the name `scope`.
+pub fn first_of(
+    reading: Reading,
+    sheet: &[u8],
+    scope: &[u8],
+    kind: ScopeType,
+    name: &[u8],
+) -> Sought
+    requires { ⌜ length (now sheet) ≤ 65535 ⌝ }
+    ensures { λ r. ⌜ (r ≡ soughtOf (declarationFor (toldReading reading) (schemasIn (now (sheet .entry))) (pathTo (now (scope .entry)) (toldKind kind) (now (name .entry))))) × Small r ⌝ }
+{
+    let end = sheet.len();
+    let mut first: usize = 0;
+    let mut from: usize = 0;
+    loop {
+        let Header::Field { tag, start, stop } = field_at(sheet, from, end) else {
+            return Sought::Past(0);
+        };
+        if tag == 1 {
+            let more = size(sheet, start, stop);
+            if has_name(reading, sheet, start, stop, scope) {
+                let r = in_kind(reading, sheet, start, stop, kind, name, first);
+                let Sought::Past(_) = r else {
+                    return r;
+                };
+                first += more;
+                from = stop;
+            } else {
+                first += more;
+                from = stop;
+            }
+        } else {
+            from = stop;
+        }
+    }
+}
+
+// ---- What a name means.
+
+// The number of what the name resolves to in a scope: only the outermost step can be a schema.
+fn resolved_for(reading: Reading, sheet: &[u8], query: &[u8], scope: Scope, name: &[u8]) -> Sought
+    requires { ⌜ (length (now sheet) ≤ 65535) × Spans (now query) (scope .one) ⌝ }
+    ensures { λ r. ⌜ (r ≡ soughtOf (resolved (toldReading reading) (schemasIn (now (sheet .entry))) (stepsIn (now (query .entry)) scope) (now (name .entry)))) × Small r ⌝ }
+{
+    let one = scope.one;
+    let kind = one.kind;
+    let start = one.start;
+    let stop = one.stop;
+    if scope.count == 0 {
+        return Sought::Past(0);
+    }
+    if kind.place() != 7 {
+        return Sought::Past(0);
+    }
+    let Home::At {
+        first,
+        start: a,
+        stop: b,
+    } = last_schema(reading, sheet, &query[start..stop])
+    else {
+        return Sought::Past(0);
+    };
+    let r = in_schema(reading, sheet, a, b, name, first);
+    let Sought::At(_) = r else {
+        return Sought::Past(0);
+    };
+    r
+}
+
+// The number of the first declaration with a path, which the query holds.
+pub fn number_for(reading: Reading, sheet: &[u8], query: &[u8], path: Path) -> Sought
+    requires { ⌜ (length (now sheet) ≤ 65535) × Spans (now query) (path .scope .one) × Spans (now query) (path .item) ⌝ }
+    ensures { λ r. ⌜ (r ≡ soughtOf (declarationFor (toldReading reading) (schemasIn (now (sheet .entry))) (pathOut (now (query .entry)) path))) × Small r ⌝ }
+{
+    let scope = path.scope;
+    let item = path.item;
+    let one = scope.one;
+    let outer = one.kind;
+    let start = one.start;
+    let stop = one.stop;
+    let kind = item.kind;
+    let from = item.start;
+    let to = item.stop;
+    if scope.count != 1 {
+        return Sought::Past(0);
+    }
+    if outer.place() != 7 {
+        return Sought::Past(0);
+    }
+    first_of(reading, sheet, &query[start..stop], kind, &query[from..to])
+}
+
+// The number that a name in a schema stands for: that of the first declaration with the path it resolves to.
+pub fn meant(reading: Reading, sheet: &[u8], scope: &[u8], name: &[u8]) -> Sought
+    requires { ⌜ length (now sheet) ≤ 65535 ⌝ }
+    ensures { λ r. ⌜ (r ≡ soughtOf (meantIn (toldReading reading) (schemasIn (now (sheet .entry))) (now (scope .entry)) (now (name .entry)))) × Small r ⌝ }
+{
+    let Home::At { first, start, stop } = last_schema(reading, sheet, scope) else {
+        return Sought::Past(0);
+    };
+    let types = look(reading, sheet, start, stop, 0x20, name, first);
+    let Sought::Past(n) = types else {
+        return first_of(reading, sheet, scope, ScopeType::Type, name);
+    };
+    let entities = look(reading, sheet, start, stop, 0x30, name, n);
+    let Sought::At(_) = entities else {
+        return Sought::Past(0);
+    };
+    first_of(reading, sheet, scope, ScopeType::Entity, name)
+}
+
+// ---- `resolve` and `get`.
+
+// The number of the declaration that a name means in a scope.
+pub fn resolve(sheet: &[u8], query: &[u8]) -> Found
+    ensures { λ r. ⌜ Promise-resolve rust (now (sheet .entry)) (now (query .entry)) r ⌝ }
+{
+    resolve_in(Reading::Rust, sheet, query)
+}
+
+// The same in a reading that the caller chooses.
+pub fn resolve_in(reading: Reading, sheet: &[u8], query: &[u8]) -> Found
+    ensures { λ r. ⌜ Promise-resolve (toldReading reading) (now (sheet .entry)) (now (query .entry)) r ⌝ }
+{
+    let asked = read_resolve(query);
+    let verdict = asked.verdict;
+    let scope = asked.scope;
+    let start = asked.start;
+    let stop = asked.stop;
+    let clear = cleared(reading, sheet, true, verdict);
+    if let Verdict::Refused(why) = clear {
+        return Found::Refused(why);
+    }
+    let Sought::At(n) = resolved_for(reading, sheet, query, scope, &query[start..stop]) else {
+        return Found::Refused(Refusal::at(6, start));
+    };
+    Found::Number(n as u16)
+}
+
+// The number of the first declaration with an equal path.
+pub fn get(sheet: &[u8], query: &[u8]) -> Found
+    ensures { λ r. ⌜ Promise-get rust (now (sheet .entry)) (now (query .entry)) r ⌝ }
+{
+    get_in(Reading::Rust, sheet, query)
+}
+
+// The same in a reading that the caller chooses.
+pub fn get_in(reading: Reading, sheet: &[u8], query: &[u8]) -> Found
+    ensures { λ r. ⌜ Promise-get (toldReading reading) (now (sheet .entry)) (now (query .entry)) r ⌝ }
+{
+    let asked = read_path(query);
+    let verdict = asked.verdict;
+    let path = asked.path;
+    let clear = cleared(reading, sheet, true, verdict);
+    if let Verdict::Refused(why) = clear {
+        return Found::Refused(why);
+    }
+    let Sought::At(n) = number_for(reading, sheet, query, path) else {
+        return Found::Refused(Refusal::of(7));
+    };
+    Found::Number(n as u16)
+}
+
+// ---- `as_path`.
+
+// The declaration with the number among those of one schema.
+fn in_fields(s: &[u8], at: usize, end: usize, number: usize) -> Declared
+    requires { ⌜ (at ≤ end) × (end ≤ length (now s)) ⌝ }
+    ensures { λ r. ⌜ InFields (now (s .entry)) at end number r ⌝ }
+{
+    match nth(s, at, end, 0x20, number) {
+        Place::At { start, stop } => Declared::At {
+            schema_start: at,
+            schema_stop: end,
+            tag: 0x20,
+            start,
+            stop,
+        },
+        Place::Past(behind) => match nth(s, at, end, 0x30, behind) {
+            Place::At { start, stop } => Declared::At {
+                schema_start: at,
+                schema_stop: end,
+                tag: 0x30,
+                start,
+                stop,
+            },
+            Place::Past(left) => Declared::Past(left),
+        },
+    }
+}
+
+// Where the declaration with the number stands.
+pub fn declaration(sheet: &[u8], index: usize) -> Declared
+    ensures { λ r. ⌜ StandsAt (now (sheet .entry)) (declarations (schemasIn (now (sheet .entry)))) index r ⌝ }
+{
+    let end = sheet.len();
+    let mut left = index;
+    let mut from: usize = 0;
+    loop {
+        let Header::Field { tag, start, stop } = field_at(sheet, from, end) else {
+            return Declared::Past(left);
+        };
+        if tag == 1 {
+            let here = in_fields(sheet, start, stop, left);
+            let Declared::Past(behind) = here else {
+                return here;
+            };
+            left = behind;
+            from = stop;
+        } else {
+            from = stop;
+        }
+    }
+}
+
+// The name of the declaration's schema: the part of the sheet that holds it, empty where it is refused.
+pub fn schema_name(sheet: &[u8], index: u16) -> &[u8]
+    ensures { λ r. ⌜ Promise-part schemaName rust (now (sheet .entry)) index (now r) ⌝ }
+{
+    schema_name_in(Reading::Rust, sheet, index)
+}
+
+// The same in a reading that the caller chooses.
+pub fn schema_name_in(reading: Reading, sheet: &[u8], index: u16) -> &[u8]
+    ensures { λ r. ⌜ Promise-part schemaName (toldReading reading) (now (sheet .entry)) index (now r) ⌝ }
+{
+    let clear = cleared(reading, sheet, true, Verdict::Done);
+    if let Verdict::Refused(_) = clear {
+        return &sheet[0..0];
+    }
+    let Declared::At {
+        schema_start,
+        schema_stop,
+        tag: _,
+        start: _,
+        stop: _,
+    } = declaration(sheet, index as usize)
+    else {
+        return &sheet[0..0];
+    };
+    let name = name_of(sheet, schema_start, schema_stop);
+    let from = name.start;
+    let to = name.stop;
+    &sheet[from..to]
+}
+
+// The declaration's own name: the part of the sheet that holds it, empty where it is refused.
+pub fn item_name(sheet: &[u8], index: u16) -> &[u8]
+    ensures { λ r. ⌜ Promise-part itemName rust (now (sheet .entry)) index (now r) ⌝ }
+{
+    item_name_in(Reading::Rust, sheet, index)
+}
+
+// The same in a reading that the caller chooses.
+pub fn item_name_in(reading: Reading, sheet: &[u8], index: u16) -> &[u8]
+    ensures { λ r. ⌜ Promise-part itemName (toldReading reading) (now (sheet .entry)) index (now r) ⌝ }
+{
+    let clear = cleared(reading, sheet, true, Verdict::Done);
+    if let Verdict::Refused(_) = clear {
+        return &sheet[0..0];
+    }
+    let Declared::At {
+        schema_start: _,
+        schema_stop: _,
+        tag: _,
+        start,
+        stop,
+    } = declaration(sheet, index as usize)
+    else {
+        return &sheet[0..0];
+    };
+    let name = name_of(sheet, start, stop);
+    let from = name.start;
+    let to = name.stop;
+    &sheet[from..to]
+}
+
+// Whether there is such a path, or why not.
+pub fn as_path(sheet: &[u8], index: u16) -> Verdict
+    ensures { λ r. ⌜ Promise-path rust (now (sheet .entry)) index r ⌝ }
+{
+    as_path_in(Reading::Rust, sheet, index)
+}
+
+// The same in a reading that the caller chooses.
+pub fn as_path_in(reading: Reading, sheet: &[u8], index: u16) -> Verdict
+    ensures { λ r. ⌜ Promise-path (toldReading reading) (now (sheet .entry)) index r ⌝ }
+{
+    let clear = cleared(reading, sheet, true, Verdict::Done);
+    if let Verdict::Refused(_) = clear {
+        return clear;
+    }
+    let Declared::Past(_) = declaration(sheet, index as usize) else {
+        return Verdict::Done;
+    };
+    Verdict::Refused(Refusal::of(15))
+}
