@@ -1,0 +1,18 @@
+-- `expr_at`: the field met is the first expression.
+use borrow.Author.Needs.{needs}
+use Rattle.gathering.proofs.Spelling.{spelling}
+use borrow.Author.Needs.{needs}
+use Rattle.gathering.proofs.expr_at.Statement.{statement}
+use Rattle.gathering.proofs.expr_at.Tie as tie
+use Rattle.gathering.proofs.expr_at.Reads as reads
+use Rattle.gathering.proofs.expr_at.Lts as lts
+use Rattle.gathering.proofs.next_field.Reads as next-field-reads
+
+next-field-requires : tie.Need-next-field-requires
+next-field-requires c κs = search needs
+
+returns : tie.Need-returns
+returns c = search (spelling, needs)
+
+pub expr-at-spec : {M : Type 1} → statement M
+expr-at-spec = tie.close (tie.spec next-field-requires returns)

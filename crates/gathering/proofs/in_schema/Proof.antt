@@ -1,0 +1,43 @@
+-- `in_schema`: the name's bytes are those of its part of the sheet.
+use borrow.Author.Needs.{needs}
+use Rattle.lookup.proofs.Names.{spanned}
+use Rattle.gathering.proofs.Walking.{naming}
+use Rattle.gathering.proofs.in_schema.Statement.{statement}
+use Rattle.gathering.proofs.in_schema.Tie as tie
+use Rattle.gathering.proofs.in_schema.Reads as reads
+use Rattle.gathering.proofs.in_schema.Lts as lts
+use Rattle.gathering.proofs.items.Reads as items-reads
+use Rattle.lookup.proofs.name_of.Reads as name-of-reads
+
+name-of-requires : tie.Need-name-of-requires
+name-of-requires c κs = search (naming, spanned, needs)
+
+sub-items : tie.Need-sub-items
+sub-items c = search (naming, spanned, needs)
+
+part-items-start : tie.Need-part-items-start
+part-items-start c = search (naming, spanned, needs)
+
+part-items-end : tie.Need-part-items-end
+part-items-end c = search (naming, spanned, needs)
+
+items-requires : tie.Need-items-requires
+items-requires c κs = search (naming, spanned, needs)
+
+same-length : tie.Need-same-length
+same-length c = search (naming, spanned, needs)
+
+returns : tie.Need-returns
+returns c = search (naming, spanned, needs)
+
+pub in-schema-spec : {M : Type 1} → statement M
+in-schema-spec =
+    tie.close
+    (tie.spec
+    name-of-requires
+    sub-items
+    part-items-start
+    part-items-end
+    items-requires
+    same-length
+    returns)

@@ -1,0 +1,56 @@
+-- `own_number`: the number of the first declaration with the entity's own path.
+use borrow.Author.Needs.{needs}
+use Rattle.lookup.proofs.Names.{spanned}
+use Rattle.gathering.proofs.Meaning.{owning}
+use borrow.Author.Needs.{needs}
+use Rattle.gathering.proofs.own_number.Statement.{statement}
+use Rattle.gathering.proofs.own_number.Tie as tie
+use Rattle.gathering.proofs.own_number.Reads as reads
+use Rattle.gathering.proofs.own_number.Lts as lts
+use Rattle.lookup.proofs.name_of.Reads as name-of-reads
+use Rattle.namespace.proofs.first_of.Reads as first-of-reads
+
+name-of-requires : tie.Need-name-of-requires
+name-of-requires c κs = search needs
+
+sub-first-of : tie.Need-sub-first-of
+sub-first-of c = search (spanned, owning, needs)
+
+part-first-of-start : tie.Need-part-first-of-start
+part-first-of-start c = search (spanned, owning, needs)
+
+part-first-of-end : tie.Need-part-first-of-end
+part-first-of-end c = search (spanned, owning, needs)
+
+first-of-requires : tie.Need-first-of-requires
+first-of-requires c κs = search needs
+
+enum-known-number : tie.Need-enum-known-number
+enum-known-number c = search needs
+
+enum-told : tie.Need-enum-told
+enum-told c = search needs
+
+returns : tie.Need-returns
+returns c = search (spanned, owning, needs)
+
+cast-result : tie.Need-cast-result
+cast-result c = search (spanned, owning, needs)
+
+returns-2 : tie.Need-returns-2
+returns-2 c = search (spanned, owning, needs)
+
+pub own-number-spec : {M : Type 1} → statement M
+own-number-spec =
+    tie.close
+    (tie.spec
+    name-of-requires
+    sub-first-of
+    part-first-of-start
+    part-first-of-end
+    first-of-requires
+    enum-known-number
+    enum-told
+    returns
+    cast-result
+    returns-2)
