@@ -1,40 +1,39 @@
 -- What a schema's fields are read by its name alone, and field by field: the passes are the steps.
-use mathlib.Core.Path.{_≡_, refl, sym, ap, ap₂, _∙_, subst}
+use mathlib.Core.Path.{_≡_, refl, sym, ap, ap₂, _∙_}
 use mathlib.Core.List.{List, [], _∷_, _++_, map, append-assoc, append-nil}
 use mathlib.Core.Bool.{Bool, true, false, cond}
 use mathlib.Core.Option.{Option, none, some}
-use Prim.Native.Nat.{ℕ, _+_, _≤_, max}
+use Prim.Native.Nat.{ℕ, _≤_}
 use native.Mathlib.Nat.{le-refl}
 use native.Mathlib.Omega.{arith}
 use borrow.Author.Tests.{eq-eqb}
 use lib.Dec.{eqb}
-use lib.ListN.{length}
 use Rattle.refusal.specs.MeaningAnswer.{Answer, done, refused, mapped, _>>=_}
 use Rattle.sheet.specs.MeaningReading.{Reading}
 use Rattle.sheet.specs.MeaningName.{Name}
 use Rattle.schemas.specs.MeaningTree.{Tree}
 use Rattle.schemas.specs.MeaningTree.Tree.{nil, leaf, node}
-use Rattle.schemas.specs.MeaningSchemas.{Entity, Schema, nameOf, exprOf, markOf, supertypesOf, entityOf, constraintOf, each, schemaOf, schemasOf}
+use Rattle.schemas.specs.MeaningSchemas.{Entity, Schema, exprOf, markOf, supertypesOf, entityOf, constraintOf, each, schemaOf, schemasOf}
 use Rattle.scope.specs.MeaningScope.{Scope, sameScope, sameStep, samePath}
 use Rattle.scope.proofs.Equality.{two, name-refl, step-refl}
 use Rattle.expression.specs.MeaningExpression.{Expr, Terms}
 use Rattle.expression.specs.MeaningExpression.Expr.{reference, andor, «and», oneof}
 use Rattle.expression.specs.MeaningExpression.Terms.{end, _then_}
 use Rattle.lookup.specs.MirrorLookup.{itself}
-use Rattle.namespace.specs.MeaningNamespace.{scopeIn, itemOf, pathIn, answered, first, resolved}
+use Rattle.namespace.specs.MeaningNamespace.{scopeIn, itemOf, pathIn, first, resolved}
 use Rattle.namespace.specs.MirrorNamespace.{wordOf, schemaScope}
 use Rattle.namespace.specs.MeaningNamespace.Named.{an-entity}
 use Rattle.namespace.proofs.Schemas.{named-so}
 use Rattle.namespace.proofs.Scopes.{declaration-same, seen-same, resolved-first}
-use Rattle.merging.specs.MeaningMerging.{Combined, Pair, find, vacant}
+use Rattle.merging.specs.MeaningMerging.{Combined, Pair}
 use Rattle.merging.specs.MirrorStream.{paired}
 use Rattle.gathering.specs.MeaningGathering.{through, ruleOf, supersOf, resolvedExpr, resolvedTerms, subtype, stepC}
 use Rattle.gathering.specs.MeaningCombined.{pathFor, ownPath, numberFor, numberIn}
-use Rattle.gathering.specs.MirrorGathering.{size, level, given, sum, highest, markedBy, ruleSize, ruleLevel, superSize, constraintSize, constraintLevel, rulesSize, supersSize, constraintsSize, schemaLevel, behind, ruleKept, rulesKept, constraintKept, constraintsKept, numberMeant, ownNumber}
-use Rattle.gathering.specs.MirrorWalk.{schemaNamed, tagFor, superKept, itemKept, itemsKept, allKept, itemSize, itemLevel, itemsSize, itemsLevel, allSize, allLevel}
+use Rattle.gathering.specs.MirrorGathering.{sum, highest, ruleSize, ruleLevel, superSize, constraintSize, constraintLevel, rulesSize, supersSize, constraintsSize, schemaLevel, behind, ruleKept, rulesKept, constraintKept, constraintsKept, numberMeant, ownNumber}
+use Rattle.gathering.specs.MirrorWalk.{schemaNamed, superKept, itemKept, allKept, itemSize, itemLevel, itemsSize, itemsLevel, allSize, allLevel}
 use Rattle.gathering.specs.declared.Pass.{Pass}
 use Rattle.gathering.specs.declared.Pass.the-variants.{Rules, Constraints, Subtypes}
-use Rattle.gathering.proofs.Following.{Follows, has, has-not, follow-mapped, follow-bind, follow-through}
+use Rattle.gathering.proofs.Following.{Follows, has, has-not, follow-mapped, follow-through}
 use Rattle.gathering.proofs.Renaming.{map-last}
 
 -- ---- by the name alone

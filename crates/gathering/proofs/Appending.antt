@@ -1,14 +1,11 @@
 -- Numbers put behind those that were used: one after the other, and nodes with their terms.
-use mathlib.Core.Path.{_≡_, refl, sym, ap, ap₂, _∙_, subst}
-use mathlib.Core.List.{List, [], _∷_, _++_, append-assoc, append-nil}
-use Prim.Native.Nat.{ℕ, zero, suc, _+_, _-_, _*_, _<_, _≤_, max}
-use native.Mathlib.Nat.{le-refl}
+use mathlib.Core.Path.{_≡_, refl, sym, ap, _∙_, subst}
+use mathlib.Core.List.{List, [], _++_, append-assoc, append-nil}
+use Prim.Native.Nat.{ℕ, _+_, _*_}
 use native.Mathlib.Omega.{arith}
 use lib.Dec.{eqb}
-use lib.ListN.{length, take, drop, set, length-append, length-take}
-use lib.Seq.{take-at, take-set-lt, set-at, length-take-le}
+use lib.ListN.{length, take, length-append}
 use Rattle.refusal.specs.MeaningAnswer.{Answer, done, refused, mapped, _>>=_}
-use Rattle.refusal.specs.declared.Refusal.{Refusal}
 use Rattle.sheet.specs.MeaningReading.{Reading}
 use Rattle.sheet.specs.MeaningName.{Name}
 use Rattle.sheet.proofs.Choosing.{clash}
@@ -21,10 +18,8 @@ use Rattle.expression.specs.MirrorNodes.{flat, flats, height, heights}
 use Rattle.namespace.specs.MirrorNamespace.{schemaScope}
 use Rattle.gathering.specs.MeaningGathering.{resolvedExpr, resolvedTerms}
 use Rattle.gathering.specs.MirrorGathering.{size, sizes, level, levels, numberMeant, ownNumber}
-use Rattle.gathering.specs.MirrorWalk.{Appends, opOf, exprNumbers, termsNumbers, toldFilled}
-use Rattle.gathering.specs.declared.Filled.{Filled}
-use Rattle.gathering.specs.declared.Filled.the-variants.{To, Refused}
-use Rattle.gathering.proofs.Following.{Follows, has, has-not, follow-by, follow-bind, follow-kept}
+use Rattle.gathering.specs.MirrorWalk.{Appends, exprNumbers, termsNumbers}
+use Rattle.gathering.proofs.Following.{Follows, has, has-not, follow-by, follow-bind}
 
 -- ---- what an answer says
 

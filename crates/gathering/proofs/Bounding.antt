@@ -1,9 +1,9 @@
 -- The limits of a sheet bound what there is to gather.
-use mathlib.Core.Path.{_≡_, refl, sym, ap, _∙_, subst}
+use mathlib.Core.Path.{_≡_, refl, sym, _∙_, subst}
 use mathlib.Core.List.{List, [], _∷_}
-use mathlib.Core.Bool.{Bool, true, false, cond, _||_}
+use mathlib.Core.Bool.{Bool, true, false, cond}
 use mathlib.Core.Option.{Option, none, some}
-use Prim.Native.Nat.{ℕ, suc, _+_, _≤_, max}
+use Prim.Native.Nat.{ℕ, _+_, _≤_}
 use native.Mathlib.Nat.{le-refl}
 use native.Mathlib.Omega.{arith}
 use borrow.Author.Tests.{eqb-true, leb-true, leb-false}
@@ -16,14 +16,14 @@ use Rattle.sheet.specs.MeaningGrammar.{oneOf, expressions, counts}
 use Rattle.sheet.specs.MeaningGrammar.Limit.{terms}
 use Rattle.sheet.specs.MeaningSheet.{Is}
 use Rattle.sheet.specs.Claims.{AllBytes}
-use Rattle.sheet.proofs.Choosing.{either, clash}
+use Rattle.sheet.proofs.Choosing.{either}
 use Rattle.expression.specs.MeaningExpression.{Expr, Terms}
 use Rattle.expression.specs.MeaningExpression.Terms.{end, _then_}
-use Rattle.forest.specs.MeaningForest.{Forest, total, larger, height}
+use Rattle.forest.specs.MeaningForest.{total, larger, height}
 use Rattle.forest.proofs.Proved.{has-its-forest}
 use Rattle.schemas.specs.MeaningTree.{Tree, bare, treeOf}
 use Rattle.schemas.specs.MeaningTree.Tree.{nil, leaf, node}
-use Rattle.schemas.specs.MeaningSchemas.{Mark, Entity, Constraint, Schema, nameAt, namesOf, termsOf, firstOf, exprOf, ruled, markOf, supertypesOf, entityOf, constraintOf, each, schemaOf, schemasOf}
+use Rattle.schemas.specs.MeaningSchemas.{Mark, nameAt, namesOf, termsOf, firstOf, exprOf, ruled, markOf, supertypesOf, entityOf, constraintOf, each, schemaOf, schemasOf}
 use Rattle.schemas.specs.MeaningSchemas.Mark.{abstract-supertype}
 use Rattle.schemas.proofs.Proved.{bare-tree}
 use Rattle.namespace.specs.MeaningOrder.{schemasIn}

@@ -1,22 +1,20 @@
 -- What names mean is declared, and so is every entity; equal paths are those with one number.
 use mathlib.Core.Path.{_≡_, refl, sym, ap, _∙_, subst}
-use mathlib.Core.Logic.{_⊎_, inl, inr}
 use mathlib.Core.List.{List, [], _∷_, _++_, map}
 use mathlib.Core.Bool.{Bool, true, false}
 use mathlib.Core.Option.{Option, none, some}
 use Prim.Native.Nat.{ℕ, zero, suc, _+_}
-use native.Mathlib.Omega.{arith}
-use borrow.Author.Tests.{eqb-true, eq-eqb, ne-eqb}
+use borrow.Author.Tests.{eqb-true, eq-eqb}
 use lib.Dec.{eqb}
 use lib.ListN.{length, getElem?}
-use Rattle.refusal.specs.MeaningAnswer.{Answer, done, refused, mapped}
+use Rattle.refusal.specs.MeaningAnswer.{mapped}
 use Rattle.complex_entity.specs.MeaningSets.{_∈_, here, there}
 use Rattle.sheet.specs.MeaningReading.{Reading}
 use Rattle.sheet.specs.MeaningName.{Name}
 use Rattle.sheet.proofs.Choosing.{clash}
 use Rattle.schemas.specs.MeaningSchemas.{Entity, Schema}
 use Rattle.scope.specs.MeaningScope.{Scope, Path, samePath}
-use Rattle.namespace.specs.MeaningNamespace.{Declaration, Named, pathIn, declaredBy, numbered, Entry, entriesFrom, allOf, declarations, answered, declarationFor, resolved}
+use Rattle.namespace.specs.MeaningNamespace.{Declaration, Named, pathIn, declaredBy, numbered, entriesFrom, allOf, declarations, answered, declarationFor, resolved}
 use Rattle.namespace.specs.MeaningNamespace.Named.{a-type, an-entity}
 use Rattle.namespace.proofs.Scopes.{path-refl, path-sym, path-trans}
 use Rattle.namespace.proofs.Proved.{resolved-declared, get-finds, get-apart}

@@ -1,8 +1,7 @@
 -- The three passes, one after the other, leave the streams.
 use mathlib.Core.Path.{_≡_, refl, sym, ap, ap₂, _∙_, subst}
-use mathlib.Core.List.{List, [], _∷_, _++_, map}
+use mathlib.Core.List.{List, [], _++_, map}
 use Prim.Native.Nat.{ℕ, _+_, _*_, _<_, _≤_}
-use native.Mathlib.Nat.{le-refl}
 use native.Mathlib.Omega.{arith}
 use lib.Dec.{eqb}
 use lib.ListN.{length, take, length-append}
@@ -11,15 +10,15 @@ use Rattle.refusal.specs.declared.Refusal.{Refusal}
 use Rattle.sheet.specs.MeaningReading.{Reading}
 use Rattle.sheet.proofs.Choosing.{clash}
 use Rattle.schemas.specs.MeaningTree.{Tree, treeOf}
-use Rattle.schemas.specs.MeaningSchemas.{Schema, nameOf, each, schemasOf}
+use Rattle.schemas.specs.MeaningSchemas.{Schema, each, schemasOf}
 use Rattle.lookup.specs.MirrorLookup.{itself}
 use Rattle.namespace.specs.MeaningOrder.{schemasIn}
 use Rattle.merging.specs.MeaningMerging.{Combined, Pair}
 use Rattle.merging.specs.MirrorStream.{streamOf, paired, pairsOf}
 use Rattle.merging.proofs.Streams.{stream-append}
 use Rattle.gathering.specs.MeaningGathering.{through, stepC}
-use Rattle.gathering.specs.MirrorGathering.{Bounded, rulesKept, constraintsKept, streamsOf, numberMeant, ownNumber, streams}
-use Rattle.gathering.specs.MirrorWalk.{Stands, Front, Kept, Room, itemsKept, allKept, itemsSize, allSize, allLevel, toldFilled, toldGathered, Streamed}
+use Rattle.gathering.specs.MirrorGathering.{Bounded, constraintsKept, streamsOf, numberMeant, ownNumber, streams}
+use Rattle.gathering.specs.MirrorWalk.{Stands, Kept, Room, allKept, itemsSize, allSize, allLevel, toldFilled, toldGathered, Streamed}
 use Rattle.gathering.specs.declared.Filled.{Filled}
 use Rattle.gathering.specs.declared.Filled.the-variants.{To, Refused}
 use Rattle.gathering.specs.declared.Gathered as gathered
@@ -78,8 +77,13 @@ module _ (s : List ℕ) where
   unfolding schemasIn
   low k B = omega (arith, B .low, all-level k (treeOf s))
 
-  pub first-room : Bounded (schemasIn s) → (w₀ : List ℕ) → 2048 ≤ length w₀ → length w₀ < 65536 → Room (allSize Rules (treeOf s)) (allLevel Rules (treeOf s)) 0 w₀
-  first-room B w₀ h l = record { front = record { list = []; stands = none-yet w₀ }; room = omega (arith, enough B); low = low Rules B; small = l }
+  room-for : (k : Pass) → Bounded (schemasIn s) → allSize k (treeOf s) ≤ 512
+  room-for Rules B = omega (arith, enough B)
+  room-for Constraints B = omega (arith, enough B)
+  room-for Subtypes B = omega (arith, enough B)
+
+  pub first-room : (k : Pass) → Bounded (schemasIn s) → (w₀ : List ℕ) → 2048 ≤ length w₀ → length w₀ < 65536 → Room (allSize k (treeOf s)) (allLevel k (treeOf s)) 0 w₀
+  first-room k B w₀ h l = record { front = record { list = []; stands = none-yet w₀ }; room = omega (arith, room-for k B); low = low k B; small = l }
 
 module _ (rd : Reading) (s : List ℕ) where
   abbrev xs : List Schema

@@ -15,4 +15,5 @@ pub mod Pairs
 pub mod Walking
 pub mod Alike
 pub mod Gathering
+pub mod Streaming
 pub mod Proved

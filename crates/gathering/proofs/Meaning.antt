@@ -1,20 +1,18 @@
 -- What a name means by number, and what an entity itself is: `number_at` and `own_number`.
 use mathlib.Core.Path.{_≡_, refl, sym, ap, _∙_}
-use mathlib.Core.List.{List, []}
+use mathlib.Core.List.{List}
 use mathlib.Core.Bool.{true}
 use mathlib.Core.Option.{Option, none, some}
 use Prim.Native.Nat.{ℕ, _-_}
-use lib.ListN.{length, take, drop}
+use lib.ListN.{take, drop}
 use borrow.Author.Tests.{eq-eqb}
-use Rattle.refusal.specs.MeaningAnswer.{Answer, done, refused, mapped}
-use Rattle.refusal.specs.Told.{toldRefusal}
+use Rattle.refusal.specs.MeaningAnswer.{done, refused}
 use Rattle.refusal.specs.declared.Refusal.{Refusal}
 use Rattle.sheet.specs.MeaningReading.{Reading}
-use Rattle.sheet.specs.MeaningName.{Name}
 use Rattle.sheet.proofs.Choosing.{clash}
-use Rattle.schemas.specs.MeaningTree.{Tree, treeAt}
+use Rattle.schemas.specs.MeaningTree.{treeAt}
 use Rattle.schemas.specs.MeaningSchemas.{Schema, nameOf, entityOf}
-use Rattle.scope.specs.MeaningScope.{Step, Path, sameStep, samePath}
+use Rattle.scope.specs.MeaningScope.{sameStep, samePath}
 use Rattle.scope.specs.MeaningScope.ScopeType.{entity}
 use Rattle.scope.proofs.Equality.{two, name-refl, scope-refl}
 use Rattle.lookup.specs.MirrorLookup.{spanOf, Lies}
@@ -23,9 +21,8 @@ use Rattle.lookup.specs.declared.Sought.{Sought}
 use Rattle.lookup.specs.declared.Sought.the-variants.{At, Past}
 use Rattle.lookup.proofs.Names.{span-bytes}
 use Rattle.namespace.specs.MeaningNamespace.{Declaration, scopeIn, itemOf, pathIn, answered, declarationFor, resolved}
-use Rattle.namespace.specs.MirrorNamespace.{wordOf, schemaScope, pathTo, Small, soughtOf, thenFor, meantIn}
+use Rattle.namespace.specs.MirrorNamespace.{wordOf, schemaScope, pathTo, soughtOf, thenFor, meantIn}
 use Rattle.namespace.specs.Told.{toldFound}
-use Rattle.namespace.specs.declared.Found.{Found}
 use Rattle.namespace.specs.declared.Found.the-variants as found
 use Rattle.namespace.proofs.Scopes.{declaration-same}
 use Rattle.namespace.proofs.Asking.{small-at}

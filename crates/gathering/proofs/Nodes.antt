@@ -1,22 +1,20 @@
 -- Expressions read from the fields of a sheet into nodes: `read_node` and `read_terms`.
-use mathlib.Core.Path.{_≡_, refl, sym, ap, ap₂, _∙_, subst}
-use mathlib.Core.List.{List, [], _∷_, _++_, append-assoc, append-nil}
+use mathlib.Core.Path.{_≡_, refl, sym, ap, _∙_}
+use mathlib.Core.List.{List, [], _∷_, _++_, append-assoc}
 use mathlib.Core.Bool.{Bool, true, false, cond}
-use Prim.Native.Nat.{ℕ, zero, suc, _+_, _-_, _*_, _<_, _≤_, _^_, max}
-use native.Mathlib.Nat.{le-refl}
+use Prim.Native.Nat.{ℕ, suc, _+_, _-_, _*_, _<_, _≤_, max}
 use native.Mathlib.Omega.{arith}
 use borrow.Author.Tests.{eq-eqb, ne-eqb}
 use lib.Dec.{eqb}
-use lib.ListN.{length, take, drop, set, length-set, length-append, length-take}
+use lib.ListN.{length, take, drop, set, length-append}
 use lib.Seq.{take-at, take-set-lt, set-at, length-take-le}
-use Rattle.refusal.specs.MeaningAnswer.{Answer, done, refused, mapped, _>>=_}
+use Rattle.refusal.specs.MeaningAnswer.{Answer, done, refused, mapped}
 use Rattle.refusal.specs.declared.Refusal.{Refusal}
 use Rattle.sheet.specs.MeaningReading.{Reading}
 use Rattle.sheet.specs.MeaningName.{Name}
 use Rattle.sheet.specs.declared.Header.{Header}
 use Rattle.sheet.specs.declared.Header.the-variants.{Field, Passes}
-use Rattle.sheet.proofs.Choosing.{clash}
-use Rattle.schemas.specs.MeaningTree.{Tree, treeAt}
+use Rattle.schemas.specs.MeaningTree.{treeAt}
 use Rattle.schemas.specs.MeaningSchemas.{Schema, termsOf}
 use Rattle.expression.specs.MeaningExpression.{Expr, Terms}
 use Rattle.expression.specs.MeaningExpression.Expr.{reference, andor, «and», oneof}

@@ -1,42 +1,39 @@
 -- Records put one after the other: laws for every loop over things that each add to the records, and for those of names in SUBTYPE OF.
-use mathlib.Core.Path.{_≡_, refl, sym, ap, _∙_, subst}
+use mathlib.Core.Path.{_≡_, refl, sym, ap, _∙_}
 use mathlib.Core.List.{List, [], _∷_, _++_, append-assoc}
-use mathlib.Core.Option.{Option, none, some}
-use Prim.Native.Nat.{ℕ, suc, _+_, _-_, _*_, _<_, _≤_, max}
+use mathlib.Core.Option.{some}
+use Prim.Native.Nat.{ℕ, _+_, _*_, _<_, _≤_, max}
 use native.Mathlib.Nat.{le-refl}
 use native.Mathlib.Numerals.{add-one}
 use native.Mathlib.Omega.{arith}
-use lib.ListN.{length, getD, take, drop, set, length-set, length-append}
+use lib.ListN.{length, take, drop, set, length-set, length-append}
 use lib.Seq.{take-at, take-suc-set, length-take-le}
-use Rattle.refusal.specs.MeaningAnswer.{Answer, done, refused, mapped, _>>=_}
+use Rattle.refusal.specs.MeaningAnswer.{Answer, done, refused, _>>=_}
 use Rattle.refusal.specs.declared.Refusal.{Refusal}
 use Rattle.sheet.specs.MeaningReading.{Reading}
 use Rattle.sheet.specs.MeaningName.{Name}
 use Rattle.sheet.specs.declared.Header.{Header}
 use Rattle.sheet.specs.declared.Header.the-variants.{Field, Passes}
 use Rattle.sheet.proofs.Choosing.{clash}
-use Rattle.schemas.specs.MeaningTree.{Tree, treeAt}
+use Rattle.schemas.specs.MeaningTree.{treeAt}
 use Rattle.schemas.specs.MeaningSchemas.{Schema, namesOf, supertypesOf, entityOf}
 use Rattle.scope.specs.MeaningScope.{Scope}
-use Rattle.expression.specs.MeaningExpression.{Expr}
 use Rattle.expression.specs.MeaningExpression.Expr.{reference}
 use Rattle.expression.specs.MirrorNodes.{flat}
-use Rattle.namespace.specs.MeaningNamespace.{scopeIn, itemOf, pathIn}
-use Rattle.namespace.specs.MirrorNamespace.{wordOf, schemaScope}
+use Rattle.namespace.specs.MeaningNamespace.{scopeIn}
+use Rattle.namespace.specs.MirrorNamespace.{schemaScope}
 use Rattle.namespace.specs.Told.{toldFound}
 use Rattle.namespace.specs.declared.Found.{Found}
 use Rattle.namespace.specs.declared.Found.the-variants as found
 use Rattle.merging.specs.MeaningMerging.{Combined}
 use Rattle.merging.specs.MirrorStream.{streamOf}
 use Rattle.gathering.specs.MeaningGathering.{through, supersOf}
-use Rattle.gathering.specs.MeaningCombined.{ownPath}
 use Rattle.gathering.specs.MirrorGathering.{sum, highest, behind, numberMeant, ownNumber}
-use Rattle.gathering.specs.MirrorWalk.{fieldThen, Meets, wordAt, Stands, Front, Kept, Within, Room, schemaNamed, superKept, itemKept, itemSize, itemLevel, toldFilled}
-use Rattle.gathering.specs.declared.Filled.{Filled}
+use Rattle.gathering.specs.MirrorWalk.{fieldThen, Meets, wordAt, Stands, Kept, Within, Room, schemaNamed, superKept, itemKept, itemSize, itemLevel, toldFilled}
 use Rattle.gathering.specs.declared.Filled.the-variants.{To, Refused}
 use Rattle.gathering.specs.declared.Pass.the-variants.{Subtypes}
 use Rattle.gathering.proofs.Seeking.{met, met-none, supers-sought, supers-front, names-sought, names-front}
-use Rattle.gathering.proofs.Records.{kept-done, kept-refused, kept-none, kept-same, Became, became, refused-so, behind-is, behind-length, less-room}
+use Rattle.gathering.proofs.Records.{kept-done, kept-refused, kept-none, kept-same, became, refused-so, behind-is, behind-length, less-room}
 
 -- ---- one after the other
 

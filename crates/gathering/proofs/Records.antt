@@ -1,15 +1,15 @@
 -- Records behind those that stand at the front: laws for `put_record`, `rule_of` and `constraint_of`.
-use mathlib.Core.Path.{_≡_, refl, sym, ap, ap₂, _∙_, subst}
+use mathlib.Core.Path.{_≡_, refl, sym, ap, _∙_, subst}
 use mathlib.Core.List.{List, [], _∷_, _++_, append-assoc, append-nil}
 use mathlib.Core.Bool.{Bool, true, false}
 use mathlib.Core.Option.{Option, none, some}
-use Prim.Native.Nat.{ℕ, suc, _+_, _-_, _*_, _<_, _≤_}
+use Prim.Native.Nat.{ℕ, _+_, _*_, _<_, _≤_}
 use native.Mathlib.Nat.{le-refl}
 use native.Mathlib.Numerals.{add-one}
 use native.Mathlib.Omega.{arith}
 use lib.Dec.{eqb}
-use lib.ListN.{length, getD, take, drop, set, length-set, length-append}
-use lib.Seq.{take-at, take-suc, take-take, take-append-le, take-set-lt, set-at, length-take-le}
+use lib.ListN.{length, getD, take, set, length-append}
+use lib.Seq.{take-at, take-suc, take-take, take-set-lt, set-at, length-take-le}
 use Rattle.refusal.specs.MeaningAnswer.{Answer, done, refused, mapped, _>>=_}
 use Rattle.refusal.specs.declared.Refusal.{Refusal}
 use Rattle.sheet.specs.MeaningReading.{Reading}
@@ -18,7 +18,7 @@ use Rattle.sheet.specs.MeaningName.{Name}
 use Rattle.sheet.specs.declared.Header.{Header}
 use Rattle.sheet.specs.declared.Header.the-variants.{Field, Passes}
 use Rattle.sheet.proofs.Choosing.{clash}
-use Rattle.schemas.specs.MeaningTree.{Tree, treeAt}
+use Rattle.schemas.specs.MeaningTree.{treeAt}
 use Rattle.schemas.specs.MeaningSchemas.{Mark, Schema, nameOf, exprOf, markOf, entityOf, constraintOf}
 use Rattle.schemas.specs.MeaningSchemas.Mark.{unmarked, rule, abstract-entity, abstract-supertype}
 use Rattle.expression.specs.MeaningExpression.{Expr}
@@ -27,21 +27,21 @@ use Rattle.lookup.specs.MirrorLookup.{spanOf, Lies}
 use Rattle.lookup.specs.declared.Span.{Span}
 use Rattle.lookup.proofs.Names.{span-bytes}
 use Rattle.namespace.specs.MeaningNamespace.{scopeIn, itemOf, pathIn}
-use Rattle.namespace.specs.MirrorNamespace.{wordOf, schemaScope}
+use Rattle.namespace.specs.MirrorNamespace.{schemaScope}
 use Rattle.namespace.specs.Told.{toldFound}
 use Rattle.namespace.specs.declared.Found.{Found}
 use Rattle.namespace.specs.declared.Found.the-variants as found
 use Rattle.merging.specs.MeaningMerging.{Combined, find, vacant}
 use Rattle.merging.specs.MirrorStream.{streamOf, isFound, Records}
 use Rattle.merging.proofs.Streams.{stream-append, stream-injective}
-use Rattle.gathering.specs.MeaningGathering.{through, ruleOf, supersOf, resolvedExpr}
+use Rattle.gathering.specs.MeaningGathering.{ruleOf, resolvedExpr}
 use Rattle.gathering.specs.MeaningCombined.{ownPath}
 use Rattle.gathering.specs.MirrorGathering.{size, level, given, markedBy, behind, ruleKept, constraintKept, numberMeant, ownNumber}
 use Rattle.gathering.specs.MirrorWalk.{wordAt, exprIn, Spelt, Spells, no-expr, there, Appends, Stands, Front, Kept, Within, Deep, Room, schemaNamed, exprNumbers, recordKept, itemKept, itemSize, itemLevel, toldFilled}
 use Rattle.gathering.specs.declared.Filled.{Filled}
 use Rattle.gathering.specs.declared.Filled.the-variants.{To, Refused}
 use Rattle.gathering.specs.declared.Pass.the-variants.{Rules, Constraints}
-use Rattle.gathering.proofs.Appending.{Did, did, did-not, expr-length}
+use Rattle.gathering.proofs.Appending.{Did, did, did-not}
 use Rattle.gathering.proofs.Nodes.{size-some}
 
 -- ---- what becomes of the records

@@ -1,10 +1,9 @@
 -- Names replaced while they are resolved, or in the records: the same, where good names are told apart alike.
-use mathlib.Core.Path.{_≡_, refl, sym, ap, _∙_}
+use mathlib.Core.Path.{_≡_, refl, ap}
 use mathlib.Core.List.{List, [], _∷_, _++_, map}
 use mathlib.Core.Bool.{Bool}
 use mathlib.Core.Option.{Option, none, some}
-use Prim.Native.Nat.{ℕ}
-use Rattle.refusal.specs.MeaningAnswer.{Answer, done, refused, mapped, _>>=_}
+use Rattle.refusal.specs.MeaningAnswer.{Answer, done, mapped, _>>=_}
 use Rattle.complex_entity.specs.MeaningSets.{_∈_}
 use Rattle.sheet.specs.MeaningReading.{Reading}
 use Rattle.sheet.specs.MeaningName.{Name}
@@ -17,7 +16,7 @@ use Rattle.namespace.specs.MeaningNamespace.{scopeIn}
 use Rattle.merging.specs.MeaningMerging.{Combined, Pair, find, vacant}
 use Rattle.merging.specs.MeaningNumbering.{mapExpr, mapTerms, mapCombined, mapPair, mapFound, GoodExpr, GoodTerms, GoodCombined, GoodPair, Each}
 use Rattle.merging.proofs.Renaming.{mapped-find}
-use Rattle.gathering.specs.MeaningGathering.{through, ruleOf, supersOf, resolvedExpr, resolvedTerms, subtype, stepC}
+use Rattle.gathering.specs.MeaningGathering.{ruleOf, supersOf, resolvedExpr, resolvedTerms, subtype, stepC}
 use Rattle.gathering.specs.MirrorGathering.{behind, ruleKept, rulesKept, constraintKept, constraintsKept, streamsOf}
 use Rattle.gathering.proofs.Following.{Follows, has, has-not, follow-by, follow-bind, follow-through}
 
@@ -26,7 +25,7 @@ pub map-last : {A B : Type 0} (g : A → B) (l : List A) (a : A) → map g l ++ 
 map-last g [] a = refl
 map-last {A} {B} g (b ∷ l) a = ap (λ (k : List B). g b ∷ k) (map-last g l a)
 
-each-last : {A : Type 0} (P : A → Type 0) (l : List A) (a : A) → Each P l → P a → Each P (l ++ (a ∷ []))
+pub each-last : {A : Type 0} (P : A → Type 0) (l : List A) (a : A) → Each P l → P a → Each P (l ++ (a ∷ []))
 unfolding Each
 each-last P [] a G p = (p, tt)
 each-last P (b ∷ l) a G p = (G .0, each-last P l a (G .1) p)

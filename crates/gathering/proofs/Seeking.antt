@@ -1,12 +1,12 @@
 -- The next field with a tag between two: laws for its loop, and what it says of what is read from the fields.
-use mathlib.Core.Path.{_≡_, refl, sym, ap, _∙_, subst}
-use mathlib.Core.List.{List, [], _∷_}
+use mathlib.Core.Path.{_≡_, refl, ap, _∙_, subst}
+use mathlib.Core.List.{List, _∷_}
 use mathlib.Core.Bool.{Bool, true, false, cond}
 use mathlib.Core.Option.{Option, none, some}
 use Prim.Native.Nat.{ℕ, zero, suc, _+_, _-_, _<_, _≤_}
 use native.Mathlib.Nat.{le-refl}
 use native.Mathlib.Omega.{arith}
-use borrow.Author.Tests.{lt-ltb, le-ltb, ltb-true, ltb-false, eqb-true, eqb-false, eq-eqb, ne-eqb}
+use borrow.Author.Tests.{lt-ltb, le-ltb, ltb-true, eq-eqb, ne-eqb}
 use lib.Dec.{ltb, eqb}
 use lib.ListN.{length, take, drop}
 use Rattle.sheet.specs.MeaningReading.{Reading}
@@ -20,13 +20,13 @@ use Rattle.sheet.proofs.Choosing.{clash}
 use Rattle.forest.specs.MeaningPlaces.{nests}
 use Rattle.schemas.specs.MeaningTree.{Tree, treeAt}
 use Rattle.schemas.specs.MeaningTree.Tree.{nil, leaf, node}
-use Rattle.schemas.specs.MeaningSchemas.{nameAt, namesOf, termsOf, firstOf, exprOf, ruled, markOf, supertypesOf, each}
+use Rattle.schemas.specs.MeaningSchemas.{nameAt, namesOf, termsOf, exprOf, ruled, markOf, supertypesOf, each}
 use Rattle.schemas.proofs.Trees.{onto}
 use Rattle.expression.specs.MeaningExpression.{Expr}
 use Rattle.expression.specs.MeaningExpression.Terms.{_then_}
-use Rattle.lookup.proofs.Fields.{tree-none, tree-field, field-start, field-order, field-in, field-on, field-there}
+use Rattle.lookup.proofs.Fields.{tree-none, tree-field, field-start, field-order, field-in, field-on}
 use Rattle.gathering.specs.MeaningGathering.{ruleOf}
-use Rattle.gathering.specs.MirrorWalk.{seek, fieldThen, Met, Meets, no-more, next, wordAt, opOf, exprIn, Spelt, Spells, no-expr, there, givesRule}
+use Rattle.gathering.specs.MirrorWalk.{seek, fieldThen, Met, Meets, no-more, next, wordAt, opOf, exprIn, givesRule}
 
 onto-field : (s : List ℕ) (t a b p : ℕ) (f : Tree) → a ≡ p + 3 → onto (nests t) t p (take (b - a) (drop a s)) (treeAt s a b) f ≡ fieldThen s t a b f
 unfolding fieldThen

@@ -2,7 +2,7 @@
 use mathlib.Core.Path.{_≡_, refl, sym, ap, _∙_, subst}
 use mathlib.Core.List.{List}
 use mathlib.Core.Bool.{Bool, true, false, cond}
-use mathlib.Core.Option.{Option, none, some}
+use mathlib.Core.Option.{Option, none}
 use Prim.Native.Nat.{ℕ, _≤_}
 use native.Mathlib.Omega.{arith}
 use lib.Dec.{eqb}
@@ -14,12 +14,12 @@ use Rattle.sheet.specs.Told.{toldReading}
 use Rattle.sheet.specs.declared.Reading as code
 use Rattle.sheet.specs.declared.Header.{Header}
 use Rattle.sheet.specs.declared.Header.the-variants.{Field, Passes}
-use Rattle.schemas.specs.MeaningTree.{Tree, treeAt}
+use Rattle.schemas.specs.MeaningTree.{treeAt}
 use Rattle.schemas.specs.MeaningTree.Tree.{nil}
 use Rattle.schemas.specs.MeaningSchemas.{termsOf, firstOf, exprOf, markOf}
-use Rattle.expression.specs.MeaningExpression.{Expr, Terms}
+use Rattle.expression.specs.MeaningExpression.{Expr}
 use Rattle.gathering.specs.MeaningGathering.{ruleOf}
-use Rattle.gathering.specs.MirrorWalk.{Met, Meets, no-more, next, exprIn, Spelt, Spells, no-expr, there, givesRule}
+use Rattle.gathering.specs.MirrorWalk.{Meets, no-more, next, Spells, no-expr, there, givesRule}
 use Rattle.gathering.proofs.Seeking.{met, met-none, terms-sought, mark-sought, terms-front, rule-front}
 
 -- ---- the first of a value

@@ -1,14 +1,14 @@
 -- The passes: loops over the fields with a tag, each of which adds to the records.
 use mathlib.Core.Path.{_≡_, refl, sym, ap, _∙_, subst}
-use mathlib.Core.List.{List, [], _∷_, _++_}
+use mathlib.Core.List.{List, [], _∷_}
 use mathlib.Core.Bool.{true}
 use mathlib.Core.Option.{Option, none, some}
-use Prim.Native.Nat.{ℕ, suc, _+_, _-_, _*_, _<_, _≤_}
+use Prim.Native.Nat.{ℕ, _+_, _-_, _*_, _≤_}
 use native.Mathlib.Nat.{le-refl}
 use native.Mathlib.Omega.{arith}
 use lib.Dec.{eqb}
 use lib.ListN.{length, take, drop}
-use Rattle.refusal.specs.MeaningAnswer.{Answer, done, refused, mapped, _>>=_}
+use Rattle.refusal.specs.MeaningAnswer.{Answer, done, refused, _>>=_}
 use Rattle.refusal.specs.declared.Refusal.{Refusal}
 use Rattle.sheet.specs.MeaningReading.{Reading}
 use Rattle.sheet.specs.MeaningName.{Name}
@@ -30,8 +30,8 @@ use Rattle.merging.specs.MeaningMerging.{Combined, find, vacant}
 use Rattle.merging.specs.MirrorStream.{streamOf}
 use Rattle.gathering.specs.MeaningGathering.{through, ruleOf, supersOf, resolvedExpr}
 use Rattle.gathering.specs.MeaningCombined.{ownPath}
-use Rattle.gathering.specs.MirrorGathering.{size, level, given, sum, highest, markedBy, behind, ruleKept, constraintKept, numberMeant, ownNumber}
-use Rattle.gathering.specs.MirrorWalk.{seek, fieldThen, Meets, Kept, Within, Room, schemaNamed, tagFor, superKept, itemKept, itemsKept, allKept, itemSize, itemLevel, itemsSize, itemsLevel, allSize, allLevel, toldFilled}
+use Rattle.gathering.specs.MirrorGathering.{size, level, given, sum, markedBy, behind, ruleKept, constraintKept, numberMeant, ownNumber}
+use Rattle.gathering.specs.MirrorWalk.{seek, fieldThen, Meets, Kept, Within, Room, schemaNamed, tagFor, superKept, itemKept, itemsKept, itemSize, itemLevel, itemsSize, itemsLevel, allSize, allLevel, toldFilled}
 use Rattle.gathering.specs.declared.Filled.{Filled}
 use Rattle.gathering.specs.declared.Filled.the-variants.{To, Refused}
 use Rattle.gathering.specs.declared.Pass.{Pass}

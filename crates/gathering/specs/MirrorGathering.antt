@@ -5,12 +5,12 @@ use mathlib.Core.Bool.{Bool}
 use mathlib.Core.Option.{Option, none, some}
 use lib.Dec.{eqb}
 use lib.ListN.{length}
-use Rattle.refusal.specs.MeaningAnswer.{Answer, done, refused, mapped, _>>=_}
+use Rattle.refusal.specs.MeaningAnswer.{Answer, done, mapped, _>>=_}
 use Rattle.sheet.specs.MeaningReading.{Reading}
 use Rattle.sheet.specs.MeaningName.{Name}
 use Rattle.schemas.specs.MeaningSchemas.{Mark, Entity, Constraint, Schema}
 use Rattle.schemas.specs.MeaningSchemas.Mark.{unmarked, rule, abstract-entity, abstract-supertype}
-use Rattle.scope.specs.MeaningScope.{Scope, Path}
+use Rattle.scope.specs.MeaningScope.{Scope}
 use Rattle.expression.specs.MeaningExpression.{Expr, Terms}
 use Rattle.expression.specs.MeaningExpression.Expr.{reference, andor, «and», oneof}
 use Rattle.expression.specs.MeaningExpression.Terms.{end, _then_}

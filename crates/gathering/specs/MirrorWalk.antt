@@ -1,8 +1,8 @@
 -- How the code goes over the fields of a sheet, and what it leaves in the stream.
 use Prim.Native.Nat.{ℕ, _+_, _-_, _*_, _≤_, _<_}
 use mathlib.Core.Path.{_≡_}
-use mathlib.Core.List.{List, [], _∷_, _++_, map}
-use mathlib.Core.Bool.{Bool, true, cond}
+use mathlib.Core.List.{List, [], _++_}
+use mathlib.Core.Bool.{Bool, cond}
 use mathlib.Core.Option.{Option, none, some}
 use lib.Dec.{eqb, ltb}
 use lib.ListN.{length, take, drop}
@@ -16,20 +16,17 @@ use Rattle.sheet.specs.declared.Header.the-variants.{Field, Passes}
 use Rattle.forest.specs.MeaningPlaces.{nests}
 use Rattle.schemas.specs.MeaningTree.{Tree, treeAt}
 use Rattle.schemas.specs.MeaningTree.Tree.{nil, leaf, node}
-use Rattle.schemas.specs.MeaningSchemas.{Mark, Entity, Schema, nameAt, nameOf, termsOf, exprOf, ruled, markOf, supertypesOf, entityOf, constraintOf, each, schemaOf}
-use Rattle.schemas.specs.MeaningSchemas.Mark.{abstract-entity, abstract-supertype}
-use Rattle.scope.specs.MeaningScope.{Scope, Path}
-use Rattle.scope.specs.MeaningScope.ScopeType.{entity}
+use Rattle.schemas.specs.MeaningSchemas.{Schema, nameOf, termsOf, exprOf, markOf, supertypesOf, entityOf, constraintOf, each}
+use Rattle.scope.specs.MeaningScope.{Scope}
 use Rattle.expression.specs.MeaningExpression.{Expr, Terms}
 use Rattle.expression.specs.MeaningExpression.Expr.{reference, andor, «and», oneof}
 use Rattle.expression.specs.MirrorNodes.{flat, flats}
 use Rattle.lookup.specs.MirrorLookup.{itself}
 use Rattle.namespace.specs.MeaningNamespace.{scopeIn}
-use Rattle.namespace.specs.MirrorNamespace.{wordOf, schemaScope, pathTo}
+use Rattle.namespace.specs.MirrorNamespace.{wordOf, schemaScope}
 use Rattle.merging.specs.MeaningMerging.{Combined, Pair}
 use Rattle.merging.specs.MirrorStream.{streamOf, pairsOf}
 use Rattle.gathering.specs.MeaningGathering.{through, ruleOf, supersOf, resolvedExpr, resolvedTerms}
-use Rattle.gathering.specs.MeaningCombined.{numberFor}
 use Rattle.gathering.specs.MirrorGathering.{size, level, given, sum, highest, markedBy, behind, ruleKept, constraintKept, numberMeant, ownNumber}
 use Rattle.gathering.specs.declared.Pass.{Pass}
 use Rattle.gathering.specs.declared.Pass.the-variants.{Rules, Constraints, Subtypes}

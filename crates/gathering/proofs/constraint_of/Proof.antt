@@ -4,12 +4,6 @@ use Rattle.lookup.proofs.Names.{spanned}
 use Rattle.gathering.proofs.Records.{constraining}
 use Rattle.gathering.proofs.constraint_of.Statement.{statement}
 use Rattle.gathering.proofs.constraint_of.Tie as tie
-use Rattle.gathering.proofs.constraint_of.Reads as reads
-use Rattle.gathering.proofs.constraint_of.Lts as lts
-use Rattle.gathering.proofs.expr_at.Reads as expr-at-reads
-use Rattle.gathering.proofs.number_at.Reads as number-at-reads
-use Rattle.gathering.proofs.put_record.Reads as put-record-reads
-use Rattle.lookup.proofs.name_of.Reads as name-of-reads
 
 expr-at-requires : tie.Need-expr-at-requires
 expr-at-requires c κs = search (constraining, spanned, needs)

@@ -3,8 +3,6 @@ use borrow.Author.Needs.{needs}
 use Rattle.gathering.proofs.Gathering.{finishing}
 use Rattle.gathering.proofs.finished.Statement.{statement}
 use Rattle.gathering.proofs.finished.Tie as tie
-use Rattle.gathering.proofs.finished.Reads as reads
-use Rattle.gathering.proofs.finished.Lts as lts
 
 enum-known-filled : tie.Need-enum-known-filled
 enum-known-filled c = search (finishing, needs)

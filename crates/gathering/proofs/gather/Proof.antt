@@ -3,10 +3,6 @@ use borrow.Author.Needs.{needs}
 use Rattle.gathering.proofs.Gathering.{third-room, gathering}
 use Rattle.gathering.proofs.gather.Statement.{statement}
 use Rattle.gathering.proofs.gather.Tie as tie
-use Rattle.gathering.proofs.gather.Reads as reads
-use Rattle.gathering.proofs.gather.Lts as lts
-use Rattle.gathering.proofs.finished.Reads as finished-reads
-use Rattle.gathering.proofs.walk.Reads as walk-reads
 
 walk-requires : tie.Need-walk-requires
 walk-requires c κs = search (gathering, needs)

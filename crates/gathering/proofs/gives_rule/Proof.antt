@@ -3,8 +3,6 @@ use borrow.Author.Needs.{needs}
 use Rattle.gathering.proofs.Spelling.{giving}
 use Rattle.gathering.proofs.gives_rule.Statement.{statement}
 use Rattle.gathering.proofs.gives_rule.Tie as tie
-use Rattle.gathering.proofs.gives_rule.Reads as reads
-use Rattle.gathering.proofs.gives_rule.Lts as lts
 
 returns : tie.Need-returns
 returns c = search (giving, needs)

@@ -4,10 +4,6 @@ use Rattle.lookup.proofs.Names.{spanned}
 use Rattle.gathering.proofs.Walking.{naming}
 use Rattle.gathering.proofs.in_schema.Statement.{statement}
 use Rattle.gathering.proofs.in_schema.Tie as tie
-use Rattle.gathering.proofs.in_schema.Reads as reads
-use Rattle.gathering.proofs.in_schema.Lts as lts
-use Rattle.gathering.proofs.items.Reads as items-reads
-use Rattle.lookup.proofs.name_of.Reads as name-of-reads
 
 name-of-requires : tie.Need-name-of-requires
 name-of-requires c κs = search (naming, spanned, needs)

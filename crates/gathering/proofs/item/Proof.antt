@@ -3,11 +3,6 @@ use borrow.Author.Needs.{needs}
 use Rattle.gathering.proofs.Walking.{dispatching}
 use Rattle.gathering.proofs.item.Statement.{statement}
 use Rattle.gathering.proofs.item.Tie as tie
-use Rattle.gathering.proofs.item.Reads as reads
-use Rattle.gathering.proofs.item.Lts as lts
-use Rattle.gathering.proofs.constraint_of.Reads as constraint-of-reads
-use Rattle.gathering.proofs.rule_of.Reads as rule-of-reads
-use Rattle.gathering.proofs.subtypes_of.Reads as subtypes-of-reads
 
 enum-told : tie.Need-enum-told
 enum-told c = search (dispatching, needs)

@@ -8,11 +8,6 @@ use Rattle.gathering.proofs.Seeking.{meeting}
 use Rattle.gathering.proofs.Walking.{Fields, items-start, items-room, walking}
 use Rattle.gathering.proofs.items.Statement.{statement}
 use Rattle.gathering.proofs.items.Tie as tie
-use Rattle.gathering.proofs.items.Reads as reads
-use Rattle.gathering.proofs.items.Lts as lts
-use Rattle.gathering.proofs.item.Reads as item-reads
-use Rattle.gathering.proofs.next_field.Reads as next-field-reads
-use Rattle.gathering.proofs.tag_of.Reads as tag-of-reads
 
 abbrev Inv-loop : tie.InvT-loop
 Inv-loop reading sheet scope pass at end stream₀ used tag n₀ from₀ stream n from = Fields (λ i. itemKept (toldReading reading) (schemasIn sheet) pass (schemaNamed scope) (i .0) (i .1)) (λ i. itemSize pass (i .1)) (λ i. itemLevel pass (i .1)) (tagFor pass) tag sheet at end used stream₀ from n stream

@@ -4,9 +4,6 @@ use Prim.Native.Nat.{_-_}
 use Rattle.gathering.proofs.Seeking.{Seeking, seeking}
 use Rattle.gathering.proofs.next_field.Statement.{statement}
 use Rattle.gathering.proofs.next_field.Tie as tie
-use Rattle.gathering.proofs.next_field.Reads as reads
-use Rattle.gathering.proofs.next_field.Lts as lts
-use Rattle.sheet.proofs.field_at.Reads as field-at-reads
 
 abbrev Inv-loop : tie.InvT-loop
 Inv-loop sheet at end low high from₀ from = Seeking sheet at end low high from

@@ -4,10 +4,6 @@ use Rattle.gathering.proofs.Meaning.{meaning}
 use borrow.Author.Needs.{needs}
 use Rattle.gathering.proofs.number_at.Statement.{statement}
 use Rattle.gathering.proofs.number_at.Tie as tie
-use Rattle.gathering.proofs.number_at.Reads as reads
-use Rattle.gathering.proofs.number_at.Lts as lts
-use Rattle.namespace.proofs.meant.Reads as meant-reads
-use Rattle.refusal.proofs.Refusal.at.Reads as at-reads
 
 sub-meant : tie.Need-sub-meant
 sub-meant c = search needs

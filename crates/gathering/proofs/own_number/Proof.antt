@@ -5,10 +5,6 @@ use Rattle.gathering.proofs.Meaning.{owning}
 use borrow.Author.Needs.{needs}
 use Rattle.gathering.proofs.own_number.Statement.{statement}
 use Rattle.gathering.proofs.own_number.Tie as tie
-use Rattle.gathering.proofs.own_number.Reads as reads
-use Rattle.gathering.proofs.own_number.Lts as lts
-use Rattle.lookup.proofs.name_of.Reads as name-of-reads
-use Rattle.namespace.proofs.first_of.Reads as first-of-reads
 
 name-of-requires : tie.Need-name-of-requires
 name-of-requires c κs = search needs

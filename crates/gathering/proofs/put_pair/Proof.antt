@@ -5,9 +5,6 @@ use borrow.Author.Needs.{needs}
 use Rattle.gathering.proofs.Pairs.{pairing}
 use Rattle.gathering.proofs.put_pair.Statement.{statement}
 use Rattle.gathering.proofs.put_pair.Tie as tie
-use Rattle.gathering.proofs.put_pair.Reads as reads
-use Rattle.gathering.proofs.put_pair.Lts as lts
-use Rattle.expression.proofs.put_node.Reads as put-node-reads
 
 mul-stream : tie.Need-mul-stream
 mul-stream c = search (pairing, needs)

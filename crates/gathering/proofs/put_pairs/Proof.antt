@@ -7,11 +7,6 @@ use Rattle.gathering.proofs.Seeking.{meeting}
 use Rattle.gathering.proofs.Pairs.{Pairing, pairs}
 use Rattle.gathering.proofs.put_pairs.Statement.{statement}
 use Rattle.gathering.proofs.put_pairs.Tie as tie
-use Rattle.gathering.proofs.put_pairs.Reads as reads
-use Rattle.gathering.proofs.put_pairs.Lts as lts
-use Rattle.gathering.proofs.next_field.Reads as next-field-reads
-use Rattle.gathering.proofs.number_at.Reads as number-at-reads
-use Rattle.gathering.proofs.put_pair.Reads as put-pair-reads
 
 abbrev Inv-loop : tie.InvT-loop
 Inv-loop reading sheet scope own at end stream₀ used n₀ from₀ stream n from = Pairing (toldReading reading) (schemasIn sheet) scope sheet own at end used stream₀ from n stream

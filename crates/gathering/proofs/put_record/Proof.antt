@@ -3,9 +3,6 @@ use borrow.Author.Needs.{needs}
 use Rattle.gathering.proofs.Records.{recording}
 use Rattle.gathering.proofs.put_record.Statement.{statement}
 use Rattle.gathering.proofs.put_record.Tie as tie
-use Rattle.gathering.proofs.put_record.Reads as reads
-use Rattle.gathering.proofs.put_record.Lts as lts
-use Rattle.gathering.proofs.read_node.Reads as read-node-reads
 
 add-body : tie.Need-add-body
 add-body c = search (recording, needs)

@@ -5,11 +5,6 @@ use Rattle.gathering.proofs.Spelling.{ruling}
 use borrow.Author.Needs.{needs}
 use Rattle.gathering.proofs.rule_at.Statement.{statement}
 use Rattle.gathering.proofs.rule_at.Tie as tie
-use Rattle.gathering.proofs.rule_at.Reads as reads
-use Rattle.gathering.proofs.rule_at.Lts as lts
-use Rattle.gathering.proofs.expr_at.Reads as expr-at-reads
-use Rattle.gathering.proofs.gives_rule.Reads as gives-rule-reads
-use Rattle.gathering.proofs.next_field.Reads as next-field-reads
 
 next-field-requires : tie.Need-next-field-requires
 next-field-requires c κs = search needs

@@ -3,13 +3,6 @@ use borrow.Author.Needs.{needs}
 use Rattle.gathering.proofs.Records.{ruling}
 use Rattle.gathering.proofs.rule_of.Statement.{statement}
 use Rattle.gathering.proofs.rule_of.Tie as tie
-use Rattle.gathering.proofs.rule_of.Reads as reads
-use Rattle.gathering.proofs.rule_of.Lts as lts
-use Rattle.gathering.proofs.own_number.Reads as own-number-reads
-use Rattle.gathering.proofs.put_record.Reads as put-record-reads
-use Rattle.gathering.proofs.rule_at.Reads as rule-at-reads
-use Rattle.merging.proofs.is_owner.Reads as is-owner-reads
-use Rattle.refusal.proofs.Refusal.at.Reads as at-reads
 
 rule-at-requires : tie.Need-rule-at-requires
 rule-at-requires c κs = search (ruling, needs)

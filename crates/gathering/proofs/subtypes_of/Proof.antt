@@ -3,11 +3,6 @@ use borrow.Author.Needs.{needs}
 use Rattle.gathering.proofs.Pairs.{subtyping}
 use Rattle.gathering.proofs.subtypes_of.Statement.{statement}
 use Rattle.gathering.proofs.subtypes_of.Tie as tie
-use Rattle.gathering.proofs.subtypes_of.Reads as reads
-use Rattle.gathering.proofs.subtypes_of.Lts as lts
-use Rattle.gathering.proofs.next_field.Reads as next-field-reads
-use Rattle.gathering.proofs.own_number.Reads as own-number-reads
-use Rattle.gathering.proofs.put_pairs.Reads as put-pairs-reads
 
 next-field-requires : tie.Need-next-field-requires
 next-field-requires c κs = search (subtyping, needs)

@@ -9,10 +9,6 @@ use Rattle.gathering.proofs.Seeking.{meeting}
 use Rattle.gathering.proofs.Walking.{Fields, all-start, all-room, whole-kept, walking}
 use Rattle.gathering.proofs.walk.Statement.{statement}
 use Rattle.gathering.proofs.walk.Tie as tie
-use Rattle.gathering.proofs.walk.Reads as reads
-use Rattle.gathering.proofs.walk.Lts as lts
-use Rattle.gathering.proofs.in_schema.Reads as in-schema-reads
-use Rattle.gathering.proofs.next_field.Reads as next-field-reads
 
 abbrev Inv-loop : tie.InvT-loop
 Inv-loop reading sheet pass stream₀ used end n₀ from₀ stream n from = Fields (λ i. itemsKept (toldReading reading) (schemasIn sheet) pass (nameOf (i .1) .bytes) (i .1)) (λ i. itemsSize pass (i .1)) (λ i. itemsLevel pass (i .1)) 0x01 0x01 sheet 0 end used stream₀ from n stream
