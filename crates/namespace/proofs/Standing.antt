@@ -173,7 +173,7 @@ pub ruleset going = (go-start, go-end, go-none, go-there, go-skip, go-found, go-
 -- ---- the questions
 
 -- its own name begins its fields
-item-named : (t p : ℕ) (g : Tree) → itemOf (namedAt t p g) .name ≡ nameOf g
+pub item-named : (t p : ℕ) (g : Tree) → itemOf (namedAt t p g) .name ≡ nameOf g
 unfolding namedAt itemOf typeOf entityOf
 item-named t p g = by (lib.Dec.eqb t 0x20)
   where

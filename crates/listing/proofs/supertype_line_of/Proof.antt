@@ -1,0 +1,34 @@
+-- `supertype_line_of` meets its contract.
+use Rattle.listing.proofs.Spelling.{spelt}
+use borrow.Author.Needs.{needs}
+use Rattle.listing.proofs.supertype_line_of.Statement.{statement}
+use Rattle.listing.proofs.supertype_line_of.Tie as tie
+
+names-at-requires : tie.Need-names-at-requires
+names-at-requires c κs = search needs
+
+bytes-at-requires : tie.Need-bytes-at-requires
+bytes-at-requires c κs = search needs
+
+bytes-at-requires-2 : tie.Need-bytes-at-requires-2
+bytes-at-requires-2 c κs = search needs
+
+supertype-line-requires : tie.Need-supertype-line-requires
+supertype-line-requires c κs = search (spelt, needs)
+
+same-length : tie.Need-same-length
+same-length c = search needs
+
+returns : tie.Need-returns
+returns c = search (spelt, needs)
+
+pub supertype-line-of-spec : {M : Type 1} → statement M
+supertype-line-of-spec =
+    tie.close
+    (tie.spec
+    names-at-requires
+    bytes-at-requires
+    bytes-at-requires-2
+    supertype-line-requires
+    same-length
+    returns)
