@@ -302,7 +302,7 @@ fn ask_several(op: Several, counts: &[u16], rows: &[u16], out: &mut [u16]) -> Li
 }
 
 // The result's rows go to the buffer, if they fit; otherwise 12, and the buffer stays.
-fn hand_out(listed: Listed, work: &[u16], out: &mut [u16]) -> Listed
+pub fn hand_out(listed: Listed, work: &[u16], out: &mut [u16]) -> Listed
     requires { ⌜ Within (toldListed listed) (now work) ⌝ }
     ensures { λ r. ⌜ Handed (toldListed listed) (now (work .entry)) (now (out .entry)) (toldListed r) (now (out .exit)) ⌝ }
 {
@@ -318,7 +318,7 @@ fn hand_out(listed: Listed, work: &[u16], out: &mut [u16]) -> Listed
 }
 
 // A part's row goes to the buffer, if it fits.
-fn hand_out_part(part: PartialComplexEntity, out: &mut [u16]) -> Listed
+pub fn hand_out_part(part: PartialComplexEntity, out: &mut [u16]) -> Listed
     ensures { λ r. ⌜ Answers (fitting (length (now (out .entry))) (namesOf part ∷ [])) (now (out .entry)) r (now (out .exit)) ⌝ }
 {
     if out.len() < PartialComplexEntity::ROW {
@@ -389,7 +389,7 @@ fn value_of_all(op: Several, work: &mut [u16], counts: &[u16], rows: &[u16]) -> 
 // ---- operands
 
 // A part is a list of one row.
-fn read_operand(operand: Operand, rows: &[u16]) -> Read
+pub fn read_operand(operand: Operand, rows: &[u16]) -> Read
     ensures { λ r. ⌜ r ≡ judged (countsOf (toldOperand operand) (now (rows .entry))) (now (rows .entry)) ⌝ }
 {
     match operand {
