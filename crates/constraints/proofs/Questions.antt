@@ -13,6 +13,7 @@ use Rattle.refusal.specs.declared.Refusal.{Refusal}
 use Rattle.sheet.specs.MeaningReading.{Reading}
 use Rattle.sheet.proofs.Choosing.{clash}
 use Rattle.schemas.specs.MeaningSchemas.{Schema}
+use Rattle.scope.specs.Told.{toldPath}
 use Rattle.scope.specs.MeaningScope as meaning
 use Rattle.scope.specs.MeaningQuery.{pathQuery}
 use Rattle.scope.specs.MirrorQuery.{askedPathOf}
@@ -34,7 +35,7 @@ use Rattle.lookup.specs.declared.Sought.{Sought}
 use Rattle.lookup.specs.declared.Sought.the-variants.{At, Past}
 use Rattle.namespace.specs.MeaningNamespace.{Declaration, declarationFor}
 use Rattle.namespace.specs.MeaningOrder.{schemasIn, Answers}
-use Rattle.namespace.specs.MirrorNamespace.{pathOut, soughtOf}
+use Rattle.namespace.specs.MirrorNamespace.{soughtOf}
 use Rattle.namespace.specs.Told.{toldFound, toldVerdict}
 use Rattle.namespace.specs.declared.Found.{Found}
 use Rattle.namespace.specs.declared.Found.the-variants as found
@@ -155,7 +156,7 @@ told-path (refused n p) = refl
 told-path (done a) = refl
 
 module _ (q : List ℕ) (a : AskedPath) (h : a ≡ askedPathOf (pathQuery q)) where
-  the-path : (p : meaning.Path) → pathQuery q ≡ done p → pathOut q (a .path) ≡ p
+  the-path : (p : meaning.Path) → pathQuery q ≡ done p → toldPath q (a .path) ≡ p
   unfolding askedPathOf
   the-path p e = rw (h, e) (path-back q p e)
 
@@ -167,13 +168,13 @@ module _ (q : List ℕ) (a : AskedPath) (h : a ≡ askedPathOf (pathQuery q)) wh
     pub decided-refused : (why : Refusal) → r ≡ gathered.Refused why → Answers rd s (enough work) (pathQuery q) (isSupertype rd (schemasIn s)) (toldDecision (Refused why))
     unfolding toldDecision
     decided-refused why e =
-        asked-refused rd s work (toldVerdict (a .verdict)) r work' g (pathQuery q) telling (isSupertype rd (schemasIn s)) (λ b. done (ownedIn (declarationFor rd (schemasIn s) (pathOut q (a .path))) b))
+        asked-refused rd s work (toldVerdict (a .verdict)) r work' g (pathQuery q) telling (isSupertype rd (schemasIn s)) (λ b. done (ownedIn (declarationFor rd (schemasIn s) (toldPath q (a .path))) b))
         (λ p i. rw (the-path p i) (supertype-by rd (schemasIn s) p)) why e
 
-    pub decided-done : (x : Streams) → r ≡ gathered.Done x → (t : Decision) → ((b : Both) → Standing b x work' → toldDecision t ≡ done (ownedIn (declarationFor rd (schemasIn s) (pathOut q (a .path))) b))
+    pub decided-done : (x : Streams) → r ≡ gathered.Done x → (t : Decision) → ((b : Both) → Standing b x work' → toldDecision t ≡ done (ownedIn (declarationFor rd (schemasIn s) (toldPath q (a .path))) b))
         → Answers rd s (enough work) (pathQuery q) (isSupertype rd (schemasIn s)) (toldDecision t)
     decided-done x e t f =
-        asked-done rd s work (toldVerdict (a .verdict)) r work' g (pathQuery q) telling (isSupertype rd (schemasIn s)) (λ b. done (ownedIn (declarationFor rd (schemasIn s) (pathOut q (a .path))) b))
+        asked-done rd s work (toldVerdict (a .verdict)) r work' g (pathQuery q) telling (isSupertype rd (schemasIn s)) (λ b. done (ownedIn (declarationFor rd (schemasIn s) (toldPath q (a .path))) b))
         (λ p i. rw (the-path p i) (supertype-by rd (schemasIn s) p)) x e (toldDecision t) f
 
   -- ---- a list
@@ -197,7 +198,7 @@ module _ (q : List ℕ) (a : AskedPath) (h : a ≡ askedPathOf (pathQuery q)) wh
         by (refused i j) n = refl
 
     module _ (rd : Reading) (s work : List ℕ) (r : Gathered) (work' : List ℕ) (g : Gathers rd s work (toldVerdict t) r work') where
-      listing-by : (p : meaning.Path) → beside (toldVerdict row) q ≡ done p → listOf rd (schemasIn s) p ≡ (streams rd (schemasIn s) >>= λ b. listIn (declarationFor rd (schemasIn s) (pathOut q (a .path))) b)
+      listing-by : (p : meaning.Path) → beside (toldVerdict row) q ≡ done p → listOf rd (schemasIn s) p ≡ (streams rd (schemasIn s) >>= λ b. listIn (declarationFor rd (schemasIn s) (toldPath q (a .path))) b)
       listing-by p i = rw (the-path p (beside-path p i)) (list-by rd (schemasIn s) p)
 
       pub asks-refused : (why : Refusal) → r ≡ gathered.Refused why → Lists rd s q work (toldVerdict row) (valued.Refused why) work'
@@ -205,18 +206,18 @@ module _ (q : List ℕ) (a : AskedPath) (h : a ≡ askedPathOf (pathQuery q)) wh
       asks-refused why e =
           record {
             list = toldRefusal why;
-            is = asked-refused rd s work (toldVerdict t) r work' g (beside (toldVerdict row) q) telling-both (listOf rd (schemasIn s)) (λ b. listIn (declarationFor rd (schemasIn s) (pathOut q (a .path))) b) listing-by why e;
+            is = asked-refused rd s work (toldVerdict t) r work' g (beside (toldVerdict row) q) telling-both (listOf rd (schemasIn s)) (λ b. listIn (declarationFor rd (schemasIn s) (toldPath q (a .path))) b) listing-by why e;
             stands = record { is = refl; stands = tt };
             kept = g .kept;
           }
 
-      pub asks-done : (x : Streams) → r ≡ gathered.Done x → (v : Valued) (w : List ℕ) → ((b : Both) → Standing b x work' → ListedAs (listIn (declarationFor rd (schemasIn s) (pathOut q (a .path))) b) v w)
+      pub asks-done : (x : Streams) → r ≡ gathered.Done x → (v : Valued) (w : List ℕ) → ((b : Both) → Standing b x work' → ListedAs (listIn (declarationFor rd (schemasIn s) (toldPath q (a .path))) b) v w)
           → length w ≡ length work' → Lists rd s q work (toldVerdict row) v w
       asks-done x e v w f n =
           let z = g .stands x e in
           record {
             list = listAt v (drop 2048 w);
-            is = asked-done rd s work (toldVerdict t) r work' g (beside (toldVerdict row) q) telling-both (listOf rd (schemasIn s)) (λ b. listIn (declarationFor rd (schemasIn s) (pathOut q (a .path))) b) listing-by x e (listAt v (drop 2048 w)) (λ b S. f b S .is);
+            is = asked-done rd s work (toldVerdict t) r work' g (beside (toldVerdict row) q) telling-both (listOf rd (schemasIn s)) (λ b. listIn (declarationFor rd (schemasIn s) (toldPath q (a .path))) b) listing-by x e (listAt v (drop 2048 w)) (λ b S. f b S .is);
             stands = record { is = refl; stands = f (z .0) (z .2) .stands };
             kept = left-same s work' w (z .3) (z .2 .roomy) n ∙ g .kept;
           }

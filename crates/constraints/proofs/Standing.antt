@@ -6,10 +6,10 @@ use mathlib.Core.Option.{Option, none, some}
 use Prim.Native.Nat.{ℕ, _+_, _-_, _≤_, _<_}
 use native.Mathlib.Omega.{arith}
 use borrow.Author.Tests.{le-leb, lt-leb, leb-true, not-true, not-false}
-use borrow.Rule.Slice.PartMut.{putMid}
+use borrow.Rule.Slice.PartMut.{putMid, same-len-mid}
 use lib.Dec.{eqb, leb}
 use lib.ListN.{length, take, drop, replicate, length-append, length-take, length-drop, take-append-drop, drop-of-length-le}
-use lib.Seq.{take-at, drop-at, take-all, take-add}
+use lib.Seq.{take-at, drop-at, take-all, take-add, take-append-le, drop-append-le}
 use Rattle.refusal.specs.MeaningAnswer.{Answer, done, refused, mapped, _>>=_}
 use Rattle.refusal.specs.declared.Refusal.{Refusal}
 use Rattle.sheet.specs.MeaningReading.{Reading}
@@ -199,6 +199,27 @@ module _ (x : Streams) (w : List ℕ) (S : Stood x w) where
   stood-fits = simp (length-take, length-drop) (omega (arith, S .stands .rising, S .stands .within, S .stands .roomy))
 
 pub ruleset stood = (stood-rules, stood-used, stood-order, stood-inside, stood-records, stood-pairs, stood-all)
+
+-- rows written behind the records leave them
+pub standing-stays : (x : Streams) (w rows : List ℕ) → length rows ≡ length (take (length w - 2048) (drop 2048 w)) → (b : Both) → Standing b x w → Standing b x (putMid 2048 (length w - 2048) w rows)
+standing-stays x w rows n b S =
+    let front = take 2048 w in
+    let m : length front ≡ 2048 = simp length-take (omega (arith, S .roomy)) in
+    let i : x .rules ≤ length front = omega (arith, S .rising, S .within) in
+    let j : x .used - x .rules ≤ length (drop (x .rules) front) = simp length-drop (omega (arith, S .within)) in
+    let same : (rest : List ℕ) → (take (x .rules) (front ++ rest) ≡ take (x .rules) front) × (take (x .used - x .rules) (drop (x .rules) (front ++ rest)) ≡ take (x .used - x .rules) (drop (x .rules) front)) =
+    λ rest. (take-append-le (x .rules) front rest i, rw (drop-append-le (x .rules) front rest i) (take-append-le (x .used - x .rules) (drop (x .rules) front) rest j)) in
+    let was = same (drop 2048 w) in
+    let now = same (rows ++ drop (length w - 2048) (drop 2048 w)) in
+    let whole : w ≡ front ++ drop 2048 w = sym (take-append-drop 2048 w) in
+    record {
+      rules-in = now .0 ∙ sym (was .0) ∙ ap (take (x .rules)) (sym whole) ∙ S .rules-in;
+      pairs-in = now .1 ∙ sym (was .1) ∙ ap (λ (l : List ℕ). take (x .used - x .rules) (drop (x .rules) l)) (sym whole) ∙ S .pairs-in;
+      rising = S .rising;
+      within = S .within;
+      roomy = rw (same-len-mid 2048 (length w - 2048) w rows n) (S .roomy);
+      low = S .low;
+    }
 
 -- ---- the expression of an owner, and its list
 

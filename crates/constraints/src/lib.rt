@@ -8,6 +8,7 @@ ghost use lib.ListN.{length, drop};
 ghost use Rattle.refusal.specs.MeaningAnswer.{Answer, done};
 ghost use Rattle.sheet.specs.MeaningReading.Reading.{rust};
 ghost use Rattle.sheet.specs.Told.{toldReading};
+ghost use Rattle.scope.specs.Told.{toldPath};
 ghost use Rattle.scope.specs.MeaningQuery.{pathQuery};
 ghost use Rattle.scope.specs.MirrorScope.{Spans};
 ghost use Rattle.complex_entity.specs.MeaningParts.{Part};
@@ -16,7 +17,6 @@ ghost use Rattle.algebra.specs.Promises as rows;
 ghost use Rattle.expression.specs.Told.{toldNumber};
 ghost use Rattle.namespace.specs.MeaningNamespace.{declarationFor};
 ghost use Rattle.namespace.specs.MeaningOrder.{schemasIn, Answers};
-ghost use Rattle.namespace.specs.MirrorNamespace.{pathOut};
 ghost use Rattle.namespace.specs.Told.{toldFound, toldVerdict};
 ghost use Rattle.merging.specs.MeaningItems.{combinedOf};
 ghost use Rattle.merging.specs.MirrorStream.{Holds};
@@ -110,7 +110,8 @@ fn combination(workspace: &[u16], streams: Streams, owner: u16, nodes: &mut [u16
 fn value_of(workspace: &mut [u16], streams: Streams, owner: u16, nodes: &mut [u16]) -> Valued
     requires { ⌜ Stood streams (now workspace) ⌝ }
     requires { ⌜ 2051 ≤ length (now nodes) ⌝ }
-    ensures { λ r. ⌜ ((b : Both) → Standing b streams (now (workspace .entry)) → ListedAs (listBy owner b) r (now (workspace .exit))) ⌝ }
+    ensures listed { λ r. ⌜ ((b : Both) → Standing b streams (now (workspace .entry)) → ListedAs (listBy owner b) r (now (workspace .exit))) ⌝ }
+    ensures stay { λ _. ⌜ ((b : Both) → Standing b streams (now (workspace .entry)) → Standing b streams (now (workspace .exit))) ⌝ }
 {
     let expr = combination(workspace, streams, owner, nodes);
     if !expr.found {
@@ -121,10 +122,11 @@ fn value_of(workspace: &mut [u16], streams: Streams, owner: u16, nodes: &mut [u1
     value(&nodes[start..stop], &mut workspace[RECORDS..])
 }
 
-// The list of the supertype with the number, in rows behind the records; 16 where it is none.
+// The list of the supertype with the number, in rows behind the records, which stay for the next; 16 where it is none.
 pub fn list_of(workspace: &mut [u16], streams: Streams, owner: u16) -> Valued
     requires { ⌜ Stood streams (now workspace) ⌝ }
-    ensures { λ r. ⌜ ((b : Both) → Standing b streams (now (workspace .entry)) → ListedAs (listBy owner b) r (now (workspace .exit))) ⌝ }
+    ensures listed { λ r. ⌜ ((b : Both) → Standing b streams (now (workspace .entry)) → ListedAs (listBy owner b) r (now (workspace .exit))) ⌝ }
+    ensures stay { λ _. ⌜ ((b : Both) → Standing b streams (now (workspace .entry)) → Standing b streams (now (workspace .exit))) ⌝ }
 {
     let mut nodes = [0u16; NODES];
     value_of(workspace, streams, owner, &mut nodes)
@@ -190,7 +192,7 @@ fn decide(
 ) -> Decision
     requires { ⌜ (length (now sheet) ≤ 65535) × Spans (now query) (path .scope .one) × Spans (now query) (path .item) ⌝ }
     requires { ⌜ Stood streams (now workspace) ⌝ }
-    ensures { λ r. ⌜ ((b : Both) → Standing b streams (now (workspace .entry)) → toldDecision r ≡ done (ownedIn (declarationFor (toldReading reading) (schemasIn (now (sheet .entry))) (pathOut (now (query .entry)) path)) b)) ⌝ }
+    ensures { λ r. ⌜ ((b : Both) → Standing b streams (now (workspace .entry)) → toldDecision r ≡ done (ownedIn (declarationFor (toldReading reading) (schemasIn (now (sheet .entry))) (toldPath (now (query .entry)) path)) b)) ⌝ }
 {
     let used = streams.used;
     let Sought::At(n) = number_for(reading, sheet, query, path) else {
@@ -243,7 +245,7 @@ fn list_at(
 ) -> Valued
     requires { ⌜ (length (now sheet) ≤ 65535) × Spans (now query) (path .scope .one) × Spans (now query) (path .item) ⌝ }
     requires { ⌜ Stood streams (now workspace) ⌝ }
-    ensures { λ r. ⌜ ((b : Both) → Standing b streams (now (workspace .entry)) → ListedAs (listIn (declarationFor (toldReading reading) (schemasIn (now (sheet .entry))) (pathOut (now (query .entry)) path)) b) r (now (workspace .exit))) ⌝ }
+    ensures { λ r. ⌜ ((b : Both) → Standing b streams (now (workspace .entry)) → ListedAs (listIn (declarationFor (toldReading reading) (schemasIn (now (sheet .entry))) (toldPath (now (query .entry)) path)) b) r (now (workspace .exit))) ⌝ }
 {
     let Sought::At(n) = number_for(reading, sheet, query, path) else {
         return Valued::Refused(Refusal::of(16));

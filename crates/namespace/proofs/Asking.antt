@@ -13,12 +13,13 @@ use Rattle.sheet.specs.MeaningReading.{Reading}
 use Rattle.sheet.specs.MeaningName.{Name}
 use Rattle.sheet.specs.MeaningSheet.{tagOf}
 use Rattle.sheet.proofs.Choosing.{clash}
+use Rattle.scope.specs.Told.{toldScope, toldPath}
 use Rattle.scope.specs.MeaningScope as meaning
 use Rattle.scope.specs.MeaningScope.{Step}
 use Rattle.scope.specs.MeaningQuery.{wordAt, nameAt, Question, resolveQuery, pathQuery}
 use Rattle.scope.specs.Claims.{Stand}
 use Rattle.scope.specs.Claims.Stand.{here, then}
-use Rattle.scope.specs.MirrorScope.{pathIn, stepsIn, Spans}
+use Rattle.scope.specs.MirrorScope.{pathIn, Spans}
 use Rattle.scope.specs.MirrorQuery.{askedNameOf, askedPathOf}
 use Rattle.scope.specs.declared.AskedName.{AskedName}
 use Rattle.scope.specs.declared.AskedPath.{AskedPath}
@@ -33,7 +34,7 @@ use Rattle.namespace.specs.MeaningNamespace.{Declaration, answered, decl
 use Rattle.namespace.specs.MeaningOrder.{schemasIn, Answers}
 use Rattle.namespace.specs.Told.{toldFound, toldVerdict}
 use Rattle.namespace.specs.Promises.{Promise-resolve, Promise-get}
-use Rattle.namespace.specs.MirrorNamespace.{pathOut, Small, soughtOf}
+use Rattle.namespace.specs.MirrorNamespace.{Small, soughtOf}
 use Rattle.namespace.specs.declared.Found.the-variants.{Number, Refused}
 use Rattle.namespace.proofs.Clearing.{refused-first, cleared-short, cleared-asked, cleared-own}
 
@@ -89,7 +90,7 @@ told-name (done a) = refl
 
 -- the question back from its struct
 question : List ℕ → AskedName → Question
-question q a = record { scope = stepsIn q (a .scope); word = record { at = a .start; bytes = take (a .stop - a .start) (drop (a .start) q) } }
+question q a = record { scope = toldScope q (a .scope); word = record { at = a .start; bytes = take (a .stop - a .start) (drop (a .start) q) } }
 
 name-back : (q : List ℕ) (o : Answer Question) (a : Question) → o ≡ done a → NameRead q o → o ≡ done (question q (askedNameOf o))
 unfolding askedNameOf question
@@ -144,14 +145,14 @@ module _ (q : List ℕ) (a : AskedName) (h : a ≡ askedNameOf (resolveQuery q))
       own : (b : Answer ℕ) → b ≡ resolveOf rd (schemasIn s) (question q a) → Answers rd s true (resolveQuery q) (resolveOf rd (schemasIn s)) b
       own b f = cleared-own rd s true (a .verdict) r c (resolveQuery q) telling e (resolveOf rd (schemasIn s)) (question q a) the-question b f
 
-      module _ (v : Sought) (vv : v ≡ soughtOf (resolved rd (schemasIn s) (stepsIn q (a .scope)) (take (a .stop - a .start) (drop (a .start) q)))) (n : ℕ) where
+      module _ (v : Sought) (vv : v ≡ soughtOf (resolved rd (schemasIn s) (toldScope q (a .scope)) (take (a .stop - a .start) (drop (a .start) q)))) (n : ℕ) where
         pub resolve-number : v ≡ At n → Promise-resolve rd s q (Number n)
         unfolding Promise-resolve toldFound resolveOf question
-        resolve-number g = own (done n) (told-found (a .start) v (resolved rd (schemasIn s) (stepsIn q (a .scope)) (take (a .stop - a .start) (drop (a .start) q))) vv n g 6)
+        resolve-number g = own (done n) (told-found (a .start) v (resolved rd (schemasIn s) (toldScope q (a .scope)) (take (a .stop - a .start) (drop (a .start) q))) vv n g 6)
 
         pub resolve-none : v ≡ Past n → (why : Refusal) → why ≡ record { number = 6; place = a .start } → Promise-resolve rd s q (Refused why)
         unfolding Promise-resolve toldFound resolveOf question
-        resolve-none g why k = rw k (own (refused 6 (a .start)) (told-lost (a .start) v (resolved rd (schemasIn s) (stepsIn q (a .scope)) (take (a .stop - a .start) (drop (a .start) q))) vv n g 6))
+        resolve-none g why k = rw k (own (refused 6 (a .start)) (told-lost (a .start) v (resolved rd (schemasIn s) (toldScope q (a .scope)) (take (a .stop - a .start) (drop (a .start) q))) vv n g 6))
 
 pub ruleset resolving = (name-order, name-in, name-scope, resolve-refused, resolve-short, resolve-number, resolve-none, small-at)
 
@@ -163,8 +164,8 @@ told-path (refused n p) = refl
 told-path (done a) = refl
 
 -- a path that was read from a query, back from its struct
-pub path-back : (q : List ℕ) (p : meaning.Path) → pathQuery q ≡ done p → pathOut q (pathIn p) ≡ p
-unfolding pathOut pathIn
+pub path-back : (q : List ℕ) (p : meaning.Path) → pathQuery q ≡ done p → toldPath q (pathIn p) ≡ p
+unfolding toldPath pathIn
 path-back q p e = let l = path-read q (done p) e in rw (steps-back q (p .scope) (l .0) (l .1), step-back q (p .item) (l .2)) refl
 
 -- and its spans
@@ -177,7 +178,7 @@ unfolding askedPathOf
 asked-spans q (refused n p) e = (spans-none q, spans-none q)
 asked-spans q (done p) e = path-spans q p e
 
-asked-back : (q : List ℕ) (o : Answer meaning.Path) (p : meaning.Path) → o ≡ done p → pathQuery q ≡ o → o ≡ done (pathOut q (askedPathOf o .path))
+asked-back : (q : List ℕ) (o : Answer meaning.Path) (p : meaning.Path) → o ≡ done p → pathQuery q ≡ o → o ≡ done (toldPath q (askedPathOf o .path))
 unfolding askedPathOf
 asked-back q (refused n m) p e f = clash (cc)
 asked-back q (done b) p e f = ap done (sym (path-back q b f))
@@ -201,19 +202,19 @@ module _ (q : List ℕ) (a : AskedPath) (h : a ≡ askedPathOf (pathQuery q)) wh
       pub get-short : length s ≤ 65535
       get-short = cleared-short rd s true (a .verdict) r c (pathQuery q) telling-path e
 
-      the-path : pathQuery q ≡ done (pathOut q (a .path))
+      the-path : pathQuery q ≡ done (toldPath q (a .path))
       the-path = let z = cleared-asked rd s true (a .verdict) r c (pathQuery q) telling-path e in rw h (asked-back q (pathQuery q) (z .0) (z .1) refl)
 
-      own-get : (b : Answer ℕ) → b ≡ getOf rd (schemasIn s) (pathOut q (a .path)) → Answers rd s true (pathQuery q) (getOf rd (schemasIn s)) b
-      own-get b f = cleared-own rd s true (a .verdict) r c (pathQuery q) telling-path e (getOf rd (schemasIn s)) (pathOut q (a .path)) the-path b f
+      own-get : (b : Answer ℕ) → b ≡ getOf rd (schemasIn s) (toldPath q (a .path)) → Answers rd s true (pathQuery q) (getOf rd (schemasIn s)) b
+      own-get b f = cleared-own rd s true (a .verdict) r c (pathQuery q) telling-path e (getOf rd (schemasIn s)) (toldPath q (a .path)) the-path b f
 
-      module _ (v : Sought) (vv : v ≡ soughtOf (declarationFor rd (schemasIn s) (pathOut q (a .path)))) (n : ℕ) where
+      module _ (v : Sought) (vv : v ≡ soughtOf (declarationFor rd (schemasIn s) (toldPath q (a .path)))) (n : ℕ) where
         pub get-number : v ≡ At n → Promise-get rd s q (Number n)
         unfolding Promise-get toldFound getOf
-        get-number g = own-get (done n) (told-found 0 v (declarationFor rd (schemasIn s) (pathOut q (a .path))) vv n g 7)
+        get-number g = own-get (done n) (told-found 0 v (declarationFor rd (schemasIn s) (toldPath q (a .path))) vv n g 7)
 
         pub get-none : v ≡ Past n → (why : Refusal) → why ≡ record { number = 7; place = 0 } → Promise-get rd s q (Refused why)
         unfolding Promise-get toldFound getOf
-        get-none g why k = rw k (own-get (refused 7 0) (told-lost 0 v (declarationFor rd (schemasIn s) (pathOut q (a .path))) vv n g 7))
+        get-none g why k = rw k (own-get (refused 7 0) (told-lost 0 v (declarationFor rd (schemasIn s) (toldPath q (a .path))) vv n g 7))
 
 pub ruleset getting-paths = (path-scope, path-item, get-refused, get-short, get-number, get-none, small-at)

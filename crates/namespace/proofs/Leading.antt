@@ -16,8 +16,7 @@ use Rattle.schemas.specs.MeaningSchemas.{Schema, each, schemaOf}
 use Rattle.scope.specs.MeaningNames.{sameName}
 use Rattle.scope.specs.MeaningScope.{Step, placeOf, sameStep, sameScope, samePath}
 use Rattle.scope.specs.MeaningScope.ScopeType.{entity, schema, type}
-use Rattle.scope.specs.Told.{toldKind}
-use Rattle.scope.specs.MirrorScope.{stepIn, stepsIn}
+use Rattle.scope.specs.Told.{toldKind, toldStep, toldScope, toldPath}
 use Rattle.scope.specs.declared.Rung.{Rung}
 use Rattle.scope.specs.declared.Scope.{Scope}
 use Rattle.scope.specs.declared.Path.{Path}
@@ -29,7 +28,7 @@ use Rattle.lookup.proofs.Fields.{nests-type, nests-entity}
 use Rattle.namespace.specs.MeaningNamespace.{Named, a-type, an-entity, Declaration, scopeIn, itemOf, declaredBy, numbered, Entry, entriesFrom, first, or, last, declarationFor, itemsOf, seen, resolved}
 use Rattle.namespace.specs.MeaningNamespace as meant
 use Rattle.namespace.specs.MeaningOrder.{schemasIn}
-use Rattle.namespace.specs.MirrorNamespace.{wordOf, schemaScope, pathTo, pathOut, soughtOf, inSchema, entryOf, Houses, thenFor, meantIn}
+use Rattle.namespace.specs.MirrorNamespace.{wordOf, schemaScope, pathTo, soughtOf, inSchema, entryOf, Houses, thenFor, meantIn}
 use Rattle.namespace.specs.declared.Home as home
 use Rattle.namespace.proofs.Picking.{first-found, last-found}
 use Rattle.namespace.proofs.Schemas.{found, numberOf, named-so, among-types, among-entities, halves, found-there, types-means, entities-means, many-names, in-schema-means}
@@ -105,49 +104,49 @@ take-on zero x l d = absurd (d refl)
 take-on (suc n) x l d = let z : suc n - 1 ≡ n = omega arith in rw z refl
 
 -- the scope of a step that is a schema's
-step-scope : (rd : Reading) (q : List ℕ) (x : Rung) → placeOf (toldKind (x .kind)) ≡ 7 → sameScope rd (stepIn q x ∷ []) (schemaScope (take (x .stop - x .start) (drop (x .start) q))) ≡ true
-unfolding sameScope sameStep stepIn schemaScope wordOf
+step-scope : (rd : Reading) (q : List ℕ) (x : Rung) → placeOf (toldKind (x .kind)) ≡ 7 → sameScope rd (toldStep q x ∷ []) (schemaScope (take (x .stop - x .start) (drop (x .start) q))) ≡ true
+unfolding sameScope sameStep toldStep schemaScope wordOf
 step-scope rd q x e = two (two (eq-eqb (placeOf (toldKind (x .kind))) 7 e) (name-refl rd (take (x .stop - x .start) (drop (x .start) q)))) refl
 
 module _ (rd : Reading) (s q : List ℕ) (sc : Scope) (w : List ℕ) where
-  pub resolve-root : sc .count ≡ 0 → Past 0 ≡ soughtOf (resolved rd (schemasIn s) (stepsIn q sc) w)
-  unfolding stepsIn soughtOf
+  pub resolve-root : sc .count ≡ 0 → Past 0 ≡ soughtOf (resolved rd (schemasIn s) (toldScope q sc) w)
+  unfolding toldScope soughtOf
   resolve-root e = sym (rw e (ap soughtOf (resolved-root rd (schemasIn s) w)))
 
   module _ (d : sc .count ≡ 0 → ⊥) where
-    outer : stepsIn q sc ≡ stepIn q (sc .one) ∷ take (sc .count - 1) (stepIn q (sc .two) ∷ stepIn q (sc .three) ∷ [])
-    unfolding stepsIn
-    outer = take-on (sc .count) (stepIn q (sc .one)) (stepIn q (sc .two) ∷ stepIn q (sc .three) ∷ []) d
+    outer : toldScope q sc ≡ toldStep q (sc .one) ∷ take (sc .count - 1) (toldStep q (sc .two) ∷ toldStep q (sc .three) ∷ [])
+    unfolding toldScope
+    outer = take-on (sc .count) (toldStep q (sc .one)) (toldStep q (sc .two) ∷ toldStep q (sc .three) ∷ []) d
 
     module _ (k : ℕ) (kk : k ≡ placeOf (toldKind (sc .one .kind))) where
-      pub resolve-other : (k ≡ 7 → ⊥) → Past 0 ≡ soughtOf (resolved rd (schemasIn s) (stepsIn q sc) w)
-      unfolding soughtOf stepIn
-      resolve-other e = sym (ap soughtOf (ap (λ l. resolved rd (schemasIn s) l w) outer ∙ resolved-other rd (schemasIn s) w (stepIn q (sc .one)) (take (sc .count - 1) (stepIn q (sc .two) ∷ stepIn q (sc .three) ∷ [])) (λ z. e (kk ∙ z))))
+      pub resolve-other : (k ≡ 7 → ⊥) → Past 0 ≡ soughtOf (resolved rd (schemasIn s) (toldScope q sc) w)
+      unfolding soughtOf toldStep
+      resolve-other e = sym (ap soughtOf (ap (λ l. resolved rd (schemasIn s) l w) outer ∙ resolved-other rd (schemasIn s) w (toldStep q (sc .one)) (take (sc .count - 1) (toldStep q (sc .two) ∷ toldStep q (sc .three) ∷ [])) (λ z. e (kk ∙ z))))
 
       module _ (e : k ≡ 7) where
         abbrev bytes : List ℕ
         bytes = take (sc .one .stop - sc .one .start) (drop (sc .one .start) q)
 
-        seen-there : resolved rd (schemasIn s) (stepsIn q sc) w ≡ first (named-so rd w) (seen rd (schemasIn s) (schemaScope bytes))
+        seen-there : resolved rd (schemasIn s) (toldScope q sc) w ≡ first (named-so rd w) (seen rd (schemasIn s) (schemaScope bytes))
         seen-there =
             ap (λ l. resolved rd (schemasIn s) l w) outer
-            ∙ resolved-first rd (schemasIn s) w (stepIn q (sc .one)) (take (sc .count - 1) (stepIn q (sc .two) ∷ stepIn q (sc .three) ∷ []))
-            ∙ ap (first (named-so rd w)) (seen-same rd (schemasIn s) (stepIn q (sc .one) ∷ []) (schemaScope bytes) (step-scope rd q (sc .one) (sym kk ∙ e)))
+            ∙ resolved-first rd (schemasIn s) w (toldStep q (sc .one)) (take (sc .count - 1) (toldStep q (sc .two) ∷ toldStep q (sc .three) ∷ []))
+            ∙ ap (first (named-so rd w)) (seen-same rd (schemasIn s) (toldStep q (sc .one) ∷ []) (schemaScope bytes) (step-scope rd q (sc .one) (sym kk ∙ e)))
 
         module _ (o : home.Home) (H : Houses s o (last (λ e. sameScope rd (e .scope) (schemaScope bytes)) (entriesFrom 0 (schemasIn s)))) where
-          pub resolve-nowhere : o ≡ home.the-variants.Nowhere → Past 0 ≡ soughtOf (resolved rd (schemasIn s) (stepsIn q sc) w)
+          pub resolve-nowhere : o ≡ home.the-variants.Nowhere → Past 0 ≡ soughtOf (resolved rd (schemasIn s) (toldScope q sc) w)
           unfolding soughtOf first
           resolve-nowhere z = sym (ap soughtOf (seen-there ∙ ap (first (named-so rd w)) (unhoused rd s bytes o H z)))
 
           module _ (n a b : ℕ) (z : o ≡ home.the-variants.At n a b) (v : Sought) (vv : v ≡ inSchema rd w (treeAt s a b) n) (j : ℕ) where
-            reached : found v ≡ numberOf (resolved rd (schemasIn s) (stepsIn q sc) w)
+            reached : found v ≡ numberOf (resolved rd (schemasIn s) (toldScope q sc) w)
             reached = ap found vv ∙ searched rd s bytes o H n a b z w ∙ ap numberOf (sym seen-there)
 
-            pub resolve-found : v ≡ At j → v ≡ soughtOf (resolved rd (schemasIn s) (stepsIn q sc) w)
-            resolve-found g = sought-at v (resolved rd (schemasIn s) (stepsIn q sc) w) reached j g
+            pub resolve-found : v ≡ At j → v ≡ soughtOf (resolved rd (schemasIn s) (toldScope q sc) w)
+            resolve-found g = sought-at v (resolved rd (schemasIn s) (toldScope q sc) w) reached j g
 
-            pub resolve-lost : v ≡ Past j → Past 0 ≡ soughtOf (resolved rd (schemasIn s) (stepsIn q sc) w)
-            resolve-lost g = sought-past v (resolved rd (schemasIn s) (stepsIn q sc) w) reached j g
+            pub resolve-lost : v ≡ Past j → Past 0 ≡ soughtOf (resolved rd (schemasIn s) (toldScope q sc) w)
+            resolve-lost g = sought-past v (resolved rd (schemasIn s) (toldScope q sc) w) reached j g
 
 pub ruleset reaching-names = (resolve-root, resolve-other, resolve-nowhere, resolve-found, resolve-lost, house-order, house-in, house-room)
 
@@ -159,18 +158,18 @@ not-one rd (suc zero) x y z d = absurd (d refl)
 not-one rd (suc (suc n)) x y z d = foreign-deep rd x y (take n (z ∷ []))
 
 module _ (rd : Reading) (s q : List ℕ) (p : Path) where
-  pub get-long : (p .scope .count ≡ 1 → ⊥) → Past 0 ≡ soughtOf (declarationFor rd (schemasIn s) (pathOut q p))
-  unfolding soughtOf pathOut stepsIn
-  get-long d = sym (ap soughtOf (nowhere rd (pathOut q p) (not-one rd (p .scope .count) (stepIn q (p .scope .one)) (stepIn q (p .scope .two)) (stepIn q (p .scope .three)) d) (schemasIn s)))
+  pub get-long : (p .scope .count ≡ 1 → ⊥) → Past 0 ≡ soughtOf (declarationFor rd (schemasIn s) (toldPath q p))
+  unfolding soughtOf toldPath toldScope
+  get-long d = sym (ap soughtOf (nowhere rd (toldPath q p) (not-one rd (p .scope .count) (toldStep q (p .scope .one)) (toldStep q (p .scope .two)) (toldStep q (p .scope .three)) d) (schemasIn s)))
 
   module _ (c : p .scope .count ≡ 1) (k : ℕ) (kk : k ≡ placeOf (toldKind (p .scope .one .kind))) where
-    one-step : stepsIn q (p .scope) ≡ stepIn q (p .scope .one) ∷ []
-    unfolding stepsIn
+    one-step : toldScope q (p .scope) ≡ toldStep q (p .scope .one) ∷ []
+    unfolding toldScope
     one-step = rw c refl
 
-    pub get-other : (k ≡ 7 → ⊥) → Past 0 ≡ soughtOf (declarationFor rd (schemasIn s) (pathOut q p))
-    unfolding soughtOf pathOut stepIn
-    get-other d = sym (ap soughtOf (nowhere rd (pathOut q p) (rw one-step (foreign-other rd (stepIn q (p .scope .one)) [] (λ z. d (kk ∙ z)))) (schemasIn s)))
+    pub get-other : (k ≡ 7 → ⊥) → Past 0 ≡ soughtOf (declarationFor rd (schemasIn s) (toldPath q p))
+    unfolding soughtOf toldPath toldStep
+    get-other d = sym (ap soughtOf (nowhere rd (toldPath q p) (rw one-step (foreign-other rd (toldStep q (p .scope .one)) [] (λ z. d (kk ∙ z)))) (schemasIn s)))
 
     abbrev scope-bytes : List ℕ
     scope-bytes = take (p .scope .one .stop - p .scope .one .start) (drop (p .scope .one .start) q)
@@ -178,16 +177,16 @@ module _ (rd : Reading) (s q : List ℕ) (p : Path) where
     abbrev item-bytes : List ℕ
     item-bytes = take (p .item .stop - p .item .start) (drop (p .item .start) q)
 
-    same-item : sameStep rd (stepIn q (p .item)) (record { kind = toldKind (p .item .kind); name = wordOf item-bytes }) ≡ true
-    unfolding sameStep stepIn wordOf
+    same-item : sameStep rd (toldStep q (p .item)) (record { kind = toldKind (p .item .kind); name = wordOf item-bytes }) ≡ true
+    unfolding sameStep toldStep wordOf
     same-item = two (eq-eqb (placeOf (toldKind (p .item .kind))) (placeOf (toldKind (p .item .kind))) refl) (name-refl rd item-bytes)
 
-    same-there : k ≡ 7 → samePath rd (pathOut q p) (pathTo scope-bytes (toldKind (p .item .kind)) item-bytes) ≡ true
-    unfolding samePath pathOut pathTo
-    same-there e = let z : sameScope rd (stepsIn q (p .scope)) (schemaScope scope-bytes) ≡ true = rw one-step (step-scope rd q (p .scope .one) (sym kk ∙ e)) in two z same-item
+    same-there : k ≡ 7 → samePath rd (toldPath q p) (pathTo scope-bytes (toldKind (p .item .kind)) item-bytes) ≡ true
+    unfolding samePath toldPath pathTo
+    same-there e = let z : sameScope rd (toldScope q (p .scope)) (schemaScope scope-bytes) ≡ true = rw one-step (step-scope rd q (p .scope .one) (sym kk ∙ e)) in two z same-item
 
-    pub get-there : k ≡ 7 → (r : Sought) → r ≡ soughtOf (declarationFor rd (schemasIn s) (pathTo scope-bytes (toldKind (p .item .kind)) item-bytes)) → r ≡ soughtOf (declarationFor rd (schemasIn s) (pathOut q p))
-    get-there e r h = h ∙ sym (ap soughtOf (declaration-same rd (schemasIn s) (pathOut q p) (pathTo scope-bytes (toldKind (p .item .kind)) item-bytes) (same-there e)))
+    pub get-there : k ≡ 7 → (r : Sought) → r ≡ soughtOf (declarationFor rd (schemasIn s) (pathTo scope-bytes (toldKind (p .item .kind)) item-bytes)) → r ≡ soughtOf (declarationFor rd (schemasIn s) (toldPath q p))
+    get-there e r h = h ∙ sym (ap soughtOf (declaration-same rd (schemasIn s) (toldPath q p) (pathTo scope-bytes (toldKind (p .item .kind)) item-bytes) (same-there e)))
 
 pub ruleset routing = (get-long, get-other, get-there)
 

@@ -12,8 +12,6 @@ use Rattle.schemas.specs.MeaningTree.{Tree, treeAt}
 use Rattle.schemas.specs.MeaningSchemas.{Schema, each, schemaOf}
 use Rattle.scope.specs.MeaningScope.{ScopeType, placeOf, Scope, Path}
 use Rattle.scope.specs.MeaningScope.ScopeType.{schema}
-use Rattle.scope.specs.MirrorScope.{stepIn, stepsIn}
-use Rattle.scope.specs.declared.Path as code
 use Rattle.lookup.specs.MirrorLookup.{itsName, itself, lookIn}
 use Rattle.lookup.specs.declared.Sought.{Sought}
 use Rattle.lookup.specs.declared.Sought.the-variants.{At, Past}
@@ -32,10 +30,6 @@ schemaScope sc = record { kind = schema; name = wordOf sc } ∷ []
 -- the path of what it declares
 unfoldable pub pathTo : (scope : List ℕ) → ScopeType → (name : List ℕ) → Path
 pathTo sc k w = record { scope = schemaScope sc; item = record { kind = k; name = wordOf w } }
-
--- the path that a struct holds, by the bytes that its names stand in
-unfoldable pub pathOut : List ℕ → code.Path → Path
-pathOut q p = record { scope = stepsIn q (p .scope); item = stepIn q (p .item) }
 
 -- ---- numbers
 

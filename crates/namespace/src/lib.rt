@@ -10,13 +10,13 @@ ghost use Rattle.sheet.specs.MeaningReading.Reading.{rust};
 ghost use Rattle.sheet.specs.Told.{toldReading};
 ghost use Rattle.schemas.specs.MeaningTree.{treeAt};
 ghost use Rattle.scope.specs.MeaningScope.{sameScope};
-ghost use Rattle.scope.specs.Told.{toldKind};
-ghost use Rattle.scope.specs.MirrorScope.{Spans, stepsIn};
+ghost use Rattle.scope.specs.Told.{toldKind, toldScope, toldPath};
+ghost use Rattle.scope.specs.MirrorScope.{Spans};
 ghost use Rattle.namespace.specs.MeaningNamespace.{entriesFrom, last, declarations, declarationFor, resolved, schemaName, itemName};
 ghost use Rattle.namespace.specs.MeaningOrder.{schemasIn, Answers};
 ghost use Rattle.namespace.specs.Told.{toldVerdict};
 ghost use Rattle.namespace.specs.Promises.{Promise-resolve, Promise-get, Promise-part, Promise-path};
-ghost use Rattle.namespace.specs.MirrorNamespace.{schemaScope, pathTo, pathOut, Small, soughtOf, sizeIn, inSchema, inKind, Houses, meantIn};
+ghost use Rattle.namespace.specs.MirrorNamespace.{schemaScope, pathTo, Small, soughtOf, sizeIn, inSchema, inKind, Houses, meantIn};
 ghost use Rattle.namespace.specs.MirrorDeclared.{StandsAt, InFields};
 use lookup::Place;
 use lookup::Sought;
@@ -206,7 +206,7 @@ pub fn first_of(
 // The number of what the name resolves to in a scope: only the outermost step can be a schema.
 fn resolved_for(reading: Reading, sheet: &[u8], query: &[u8], scope: Scope, name: &[u8]) -> Sought
     requires { ⌜ (length (now sheet) ≤ 65535) × Spans (now query) (scope .one) ⌝ }
-    ensures { λ r. ⌜ (r ≡ soughtOf (resolved (toldReading reading) (schemasIn (now (sheet .entry))) (stepsIn (now (query .entry)) scope) (now (name .entry)))) × Small r ⌝ }
+    ensures { λ r. ⌜ (r ≡ soughtOf (resolved (toldReading reading) (schemasIn (now (sheet .entry))) (toldScope (now (query .entry)) scope) (now (name .entry)))) × Small r ⌝ }
 {
     let one = scope.one;
     let kind = one.kind;
@@ -236,7 +236,7 @@ fn resolved_for(reading: Reading, sheet: &[u8], query: &[u8], scope: Scope, name
 // The number of the first declaration with a path, which the query holds.
 pub fn number_for(reading: Reading, sheet: &[u8], query: &[u8], path: Path) -> Sought
     requires { ⌜ (length (now sheet) ≤ 65535) × Spans (now query) (path .scope .one) × Spans (now query) (path .item) ⌝ }
-    ensures { λ r. ⌜ (r ≡ soughtOf (declarationFor (toldReading reading) (schemasIn (now (sheet .entry))) (pathOut (now (query .entry)) path))) × Small r ⌝ }
+    ensures { λ r. ⌜ (r ≡ soughtOf (declarationFor (toldReading reading) (schemasIn (now (sheet .entry))) (toldPath (now (query .entry)) path))) × Small r ⌝ }
 {
     let scope = path.scope;
     let item = path.item;

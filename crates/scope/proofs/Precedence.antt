@@ -16,9 +16,9 @@ use Rattle.scope.specs.MeaningNames.{sameName}
 use Rattle.scope.specs.MeaningScope as meaning
 use Rattle.scope.specs.MeaningScope.{Step, placeOf, most-steps, sameStep, starts, compared}
 use Rattle.scope.specs.MeaningQuery.{stop, stepAt, Taken, oneMore, stepsAt, scopeQuery, orderOf}
-use Rattle.scope.specs.Told.{toldKind, toldCompared}
+use Rattle.scope.specs.Told.{toldKind, toldCompared, toldStep, toldScope}
 use Rattle.scope.specs.Promises.{Promise-order}
-use Rattle.scope.specs.MirrorScope.{kindIn, rungOf, noRung, scopeOf, stepIn, stepsIn, Spans, Fits}
+use Rattle.scope.specs.MirrorScope.{kindIn, rungOf, noRung, scopeOf, Spans, Fits}
 use Rattle.scope.specs.MirrorQuery.{askedScopeOf}
 use Rattle.scope.specs.declared.Rung.{Rung}
 use Rattle.scope.specs.declared.Scope.{Scope}
@@ -31,12 +31,12 @@ use Rattle.scope.proofs.Routes.{few-steps}
 -- ---- one step
 
 module _ (rd : Reading) (s t : List ℕ) (a b : Rung) (x y : ℕ) (e : x ≡ placeOf (toldKind (a .kind))) (f : y ≡ placeOf (toldKind (b .kind))) where
-  pub kinds-differ : (x ≡ y → ⊥) → false ≡ sameStep rd (stepIn s a) (stepIn t b)
-  unfolding sameStep stepIn
+  pub kinds-differ : (x ≡ y → ⊥) → false ≡ sameStep rd (toldStep s a) (toldStep t b)
+  unfolding sameStep toldStep
   kinds-differ d = sym (rw (← e, ← f, ne-eqb x y d) refl)
 
-  pub kinds-same : x ≡ y → (z : Bool) → z ≡ sameName rd (take (a .stop - a .start) (drop (a .start) s)) (take (b .stop - b .start) (drop (b .start) t)) → z ≡ sameStep rd (stepIn s a) (stepIn t b)
-  unfolding sameStep stepIn
+  pub kinds-same : x ≡ y → (z : Bool) → z ≡ sameName rd (take (a .stop - a .start) (drop (a .start) s)) (take (b .stop - b .start) (drop (b .start) t)) → z ≡ sameStep rd (toldStep s a) (toldStep t b)
+  unfolding sameStep toldStep
   kinds-same d z k = k ∙ sym (rw (← e, ← f, eq-eqb x y d) refl)
 
 pub ruleset likening = (kinds-differ, kinds-same)
@@ -73,45 +73,45 @@ two-less : (n m : ℕ) → n ≤ m → n - 1 - 1 ≤ m - 1 - 1
 two-less n m h = omega arith
 
 module _ (rd : Reading) (s t : List ℕ) (a b : Scope) where
-  pub start-short : Fits s a → Fits t b → b .count < a .count → false ≡ starts rd (stepsIn s a) (stepsIn t b)
-  unfolding stepsIn
+  pub start-short : Fits s a → Fits t b → b .count < a .count → false ≡ starts rd (toldScope s a) (toldScope t b)
+  unfolding toldScope
   start-short f g h =
-      let i = taken (a .count) (stepIn s (a .one)) (stepIn s (a .two)) (stepIn s (a .three)) (f .few) in
-      let j = taken (b .count) (stepIn t (b .one)) (stepIn t (b .two)) (stepIn t (b .three)) (g .few) in
-      sym (too-long rd (take (a .count) (stepIn s (a .one) ∷ stepIn s (a .two) ∷ stepIn s (a .three) ∷ [])) (take (b .count) (stepIn t (b .one) ∷ stepIn t (b .two) ∷ stepIn t (b .three) ∷ [])) (omega (arith, i, j)))
+      let i = taken (a .count) (toldStep s (a .one)) (toldStep s (a .two)) (toldStep s (a .three)) (f .few) in
+      let j = taken (b .count) (toldStep t (b .one)) (toldStep t (b .two)) (toldStep t (b .three)) (g .few) in
+      sym (too-long rd (take (a .count) (toldStep s (a .one) ∷ toldStep s (a .two) ∷ toldStep s (a .three) ∷ [])) (take (b .count) (toldStep t (b .one) ∷ toldStep t (b .two) ∷ toldStep t (b .three) ∷ [])) (omega (arith, i, j)))
 
-  pub start-root : a .count ≡ 0 → true ≡ starts rd (stepsIn s a) (stepsIn t b)
-  unfolding stepsIn
-  start-root e = sym (none-on rd (a .count) (stepIn s (a .one) ∷ stepIn s (a .two) ∷ stepIn s (a .three) ∷ []) (stepsIn t b) e)
+  pub start-root : a .count ≡ 0 → true ≡ starts rd (toldScope s a) (toldScope t b)
+  unfolding toldScope
+  start-root e = sym (none-on rd (a .count) (toldStep s (a .one) ∷ toldStep s (a .two) ∷ toldStep s (a .three) ∷ []) (toldScope t b) e)
 
-  module _ (h : a .count ≤ b .count) (d0 : a .count ≡ 0 → ⊥) (x1 : Bool) (e1 : x1 ≡ sameStep rd (stepIn s (a .one)) (stepIn t (b .one))) where
-    on-first : starts rd (stepsIn s a) (stepsIn t b) ≡ x1 && starts rd (take (a .count - 1) (stepIn s (a .two) ∷ stepIn s (a .three) ∷ [])) (take (b .count - 1) (stepIn t (b .two) ∷ stepIn t (b .three) ∷ []))
-    unfolding stepsIn
-    on-first = rw (e1) (one-on rd (a .count) (b .count) (stepIn s (a .one)) (stepIn t (b .one)) (stepIn s (a .two) ∷ stepIn s (a .three) ∷ []) (stepIn t (b .two) ∷ stepIn t (b .three) ∷ []) d0 h)
+  module _ (h : a .count ≤ b .count) (d0 : a .count ≡ 0 → ⊥) (x1 : Bool) (e1 : x1 ≡ sameStep rd (toldStep s (a .one)) (toldStep t (b .one))) where
+    on-first : starts rd (toldScope s a) (toldScope t b) ≡ x1 && starts rd (take (a .count - 1) (toldStep s (a .two) ∷ toldStep s (a .three) ∷ [])) (take (b .count - 1) (toldStep t (b .two) ∷ toldStep t (b .three) ∷ []))
+    unfolding toldScope
+    on-first = rw (e1) (one-on rd (a .count) (b .count) (toldStep s (a .one)) (toldStep t (b .one)) (toldStep s (a .two) ∷ toldStep s (a .three) ∷ []) (toldStep t (b .two) ∷ toldStep t (b .three) ∷ []) d0 h)
 
-    pub start-differs : not x1 ≡ true → false ≡ starts rd (stepsIn s a) (stepsIn t b)
+    pub start-differs : not x1 ≡ true → false ≡ starts rd (toldScope s a) (toldScope t b)
     start-differs k = sym (on-first ∙ rw (not-true x1 k) refl)
 
     module _ (k1 : not x1 ≡ false) where
-      pub start-first : a .count ≡ 1 → true ≡ starts rd (stepsIn s a) (stepsIn t b)
-      start-first e = sym (on-first ∙ rw (not-false x1 k1, none-on rd (a .count - 1) (stepIn s (a .two) ∷ stepIn s (a .three) ∷ []) (take (b .count - 1) (stepIn t (b .two) ∷ stepIn t (b .three) ∷ [])) (omega arith)) refl)
+      pub start-first : a .count ≡ 1 → true ≡ starts rd (toldScope s a) (toldScope t b)
+      start-first e = sym (on-first ∙ rw (not-false x1 k1, none-on rd (a .count - 1) (toldStep s (a .two) ∷ toldStep s (a .three) ∷ []) (take (b .count - 1) (toldStep t (b .two) ∷ toldStep t (b .three) ∷ [])) (omega arith)) refl)
 
-      module _ (d1 : a .count ≡ 1 → ⊥) (x2 : Bool) (e2 : x2 ≡ sameStep rd (stepIn s (a .two)) (stepIn t (b .two))) where
-        on-second : starts rd (stepsIn s a) (stepsIn t b) ≡ x2 && starts rd (take (a .count - 1 - 1) (stepIn s (a .three) ∷ [])) (take (b .count - 1 - 1) (stepIn t (b .three) ∷ []))
-        on-second = on-first ∙ rw (not-false x1 k1, e2) (one-on rd (a .count - 1) (b .count - 1) (stepIn s (a .two)) (stepIn t (b .two)) (stepIn s (a .three) ∷ []) (stepIn t (b .three) ∷ []) (λ z. d1 (omega (arith, z, d0))) (omega arith))
+      module _ (d1 : a .count ≡ 1 → ⊥) (x2 : Bool) (e2 : x2 ≡ sameStep rd (toldStep s (a .two)) (toldStep t (b .two))) where
+        on-second : starts rd (toldScope s a) (toldScope t b) ≡ x2 && starts rd (take (a .count - 1 - 1) (toldStep s (a .three) ∷ [])) (take (b .count - 1 - 1) (toldStep t (b .three) ∷ []))
+        on-second = on-first ∙ rw (not-false x1 k1, e2) (one-on rd (a .count - 1) (b .count - 1) (toldStep s (a .two)) (toldStep t (b .two)) (toldStep s (a .three) ∷ []) (toldStep t (b .three) ∷ []) (λ z. d1 (omega (arith, z, d0))) (omega arith))
 
-        pub start-second-differs : not x2 ≡ true → false ≡ starts rd (stepsIn s a) (stepsIn t b)
+        pub start-second-differs : not x2 ≡ true → false ≡ starts rd (toldScope s a) (toldScope t b)
         start-second-differs k = sym (on-second ∙ rw (not-true x2 k) refl)
 
         module _ (k2 : not x2 ≡ false) where
-          pub start-second : a .count ≡ 2 → true ≡ starts rd (stepsIn s a) (stepsIn t b)
-          start-second e = sym (on-second ∙ rw (not-false x2 k2, none-on rd (a .count - 1 - 1) (stepIn s (a .three) ∷ []) (take (b .count - 1 - 1) (stepIn t (b .three) ∷ [])) (omega arith)) refl)
+          pub start-second : a .count ≡ 2 → true ≡ starts rd (toldScope s a) (toldScope t b)
+          start-second e = sym (on-second ∙ rw (not-false x2 k2, none-on rd (a .count - 1 - 1) (toldStep s (a .three) ∷ []) (take (b .count - 1 - 1) (toldStep t (b .three) ∷ [])) (omega arith)) refl)
 
-          pub start-third : (a .count ≡ 2 → ⊥) → Fits s a → (x3 : Bool) → x3 ≡ sameStep rd (stepIn s (a .three)) (stepIn t (b .three)) → x3 ≡ starts rd (stepsIn s a) (stepsIn t b)
+          pub start-third : (a .count ≡ 2 → ⊥) → Fits s a → (x3 : Bool) → x3 ≡ sameStep rd (toldStep s (a .three)) (toldStep t (b .three)) → x3 ≡ starts rd (toldScope s a) (toldScope t b)
           unfolding starts
           start-third d2 f x3 e3 =
               let n : a .count - 1 - 1 ≡ 1 = ap (λ (k : ℕ). k - 1 - 1) (three-left (a .count) (f .few) d0 d1 d2) in
-              let r = one-on rd (a .count - 1 - 1) (b .count - 1 - 1) (stepIn s (a .three)) (stepIn t (b .three)) [] [] (λ z. clash (sym z ∙ n)) (two-less (a .count) (b .count) h) in
+              let r = one-on rd (a .count - 1 - 1) (b .count - 1 - 1) (toldStep s (a .three)) (toldStep t (b .three)) [] [] (λ z. clash (sym z ∙ n)) (two-less (a .count) (b .count) h) in
               sym (on-second ∙ rw (not-false x2 k2) (r ∙ rw (n, ← e3) (always x3)))
             where
               always : (x : Bool) → x && true ≡ x
@@ -164,8 +164,8 @@ kind-back meaning.ScopeType.schema = refl
 kind-back meaning.ScopeType.subType = refl
 kind-back meaning.ScopeType.type = refl
 
-pub step-back : (q : List ℕ) (x : Step) → Lies q (x .name) → stepIn q (rungOf x) ≡ x
-unfolding stepIn rungOf
+pub step-back : (q : List ℕ) (x : Step) → Lies q (x .name) → toldStep q (rungOf x) ≡ x
+unfolding toldStep rungOf
 step-back q x l = let n : x .name .at + length (x .name .bytes) - x .name .at ≡ length (x .name .bytes) = omega arith in rw (kind-back (x .kind), n, l .there) refl
 
 pub spans-of : (q : List ℕ) (x : Step) → Lies q (x .name) → Spans q (rungOf x)
@@ -179,8 +179,8 @@ abbrev pub AllLie : List ℕ → List Step → Type 0
 AllLie q [] = Unit {0}
 AllLie q (x ∷ xs) = Lies q (x .name) × AllLie q xs
 
-pub steps-back : (q : List ℕ) (l : List Step) → AllLie q l → length l ≤ 3 → stepsIn q (scopeOf l) ≡ l
-unfolding stepsIn scopeOf
+pub steps-back : (q : List ℕ) (l : List Step) → AllLie q l → length l ≤ 3 → toldScope q (scopeOf l) ≡ l
+unfolding toldScope scopeOf
 steps-back q [] a h = refl
 steps-back q (x ∷ []) a h = rw (step-back q x (a .0)) refl
 steps-back q (x ∷ y ∷ []) a h = rw (step-back q x (a .0), step-back q y (a .1 .0)) refl
@@ -231,11 +231,11 @@ module _ (q : List ℕ) (a : AskedScope) (e : a ≡ askedScopeOf (scopeQuery q))
       go (refused n p) z = let u : record { number = n; place = p } ≡ w = cc in rw (← u) refl
       go (done l) z = clash (cc)
 
-  told-done : a .verdict ≡ Done → scopeQuery q ≡ done (stepsIn q (a .scope))
+  told-done : a .verdict ≡ Done → scopeQuery q ≡ done (toldScope q (a .scope))
   unfolding askedScopeOf
   told-done k = rw e (go (scopeQuery q) (scope-read q) (sym (ap (λ (x : AskedScope). x .verdict) e) ∙ k))
     where
-      go : (o : Answer meaning.Scope) → Read q o → askedScopeOf o .verdict ≡ Done → o ≡ done (stepsIn q (askedScopeOf o .scope))
+      go : (o : Answer meaning.Scope) → Read q o → askedScopeOf o .verdict ≡ Done → o ≡ done (toldScope q (askedScopeOf o .scope))
       go (refused n p) f z = clash (cc)
       go (done l) f z = rw (steps-back q l (f .0) (f .1)) refl
 
@@ -249,7 +249,7 @@ module _ (rd : Reading) (l r : List ℕ) (a : AskedScope) (e : a ≡ askedScopeO
     unfolding Promise-order toldCompared orderOf
     order-right w m = rw (told-done l a e k, told-refused r b f w m) refl
 
-    pub order-both : b .verdict ≡ Done → (c : code.Compared) → toldCompared c ≡ done (compared rd (stepsIn l (a .scope)) (stepsIn r (b .scope))) → Promise-order rd l r c
+    pub order-both : b .verdict ≡ Done → (c : code.Compared) → toldCompared c ≡ done (compared rd (toldScope l (a .scope)) (toldScope r (b .scope))) → Promise-order rd l r c
     unfolding Promise-order orderOf
     order-both m c z = z ∙ sym (rw (told-done l a e k, told-done r b f m) refl)
 

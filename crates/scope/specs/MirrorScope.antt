@@ -1,13 +1,12 @@
--- How steps, scopes and paths stand in the code's structs, and back.
-use Prim.Native.Nat.{ℕ, _-_, _≤_}
+-- How steps, scopes and paths stand in the code's structs.
+use Prim.Native.Nat.{ℕ, _≤_}
 use mathlib.Core.List.{List, [], _∷_}
 use mathlib.Core.Bool.{cond}
-use lib.ListN.{length, take, drop}
+use lib.ListN.{length}
 use lib.Dec.{eqb}
 use Rattle.scope.specs.MeaningScope as meaning
 use Rattle.scope.specs.MeaningScope.{Step}
 use Rattle.scope.specs.MeaningQuery.{stop}
-use Rattle.scope.specs.Told.{toldKind}
 use Rattle.scope.specs.declared.ScopeType.{ScopeType}
 use Rattle.scope.specs.declared.ScopeType.the-variants.{Entity, Alias, Function, Procedure, Query, Repeat, Rule, Schema, SubType, «Type»}
 use Rattle.scope.specs.declared.Rung.{Rung}
@@ -59,14 +58,6 @@ scopeOf (x ∷ y ∷ z ∷ w) = scope-3 (rungOf x) (rungOf y) (rungOf z)
 
 unfoldable pub pathIn : meaning.Path → Path
 pathIn p = record { scope = scopeOf (p .scope); item = rungOf (p .item) }
-
--- ---- a struct as a meaning, by the bytes that its names stand in
-
-unfoldable pub stepIn : List ℕ → Rung → Step
-stepIn s x = record { kind = toldKind (x .kind); name = record { at = x .start; bytes = take (x .stop - x .start) (drop (x .start) s) } }
-
-unfoldable pub stepsIn : List ℕ → Scope → List Step
-stepsIn s x = take (x .count) (stepIn s (x .one) ∷ stepIn s (x .two) ∷ stepIn s (x .three) ∷ [])
 
 -- the span of a name lies in the bytes
 pub record Spans (s : List ℕ) (x : Rung) : Type 0 where

@@ -9,9 +9,9 @@ ghost use Rattle.sheet.specs.Told.{toldReading};
 ghost use Rattle.scope.specs.MeaningNames.{sameBytes, sameName};
 ghost use Rattle.scope.specs.MeaningScope.{placeOf, most-steps, sameStep, starts, compared};
 ghost use Rattle.scope.specs.MeaningQuery.{kindFor, stepAt, wordAt, stepsAt, scopeQuery, pathQuery, resolveQuery};
-ghost use Rattle.scope.specs.Told.{toldKind, toldCompared};
+ghost use Rattle.scope.specs.Told.{toldKind, toldCompared, toldStep, toldScope};
 ghost use Rattle.scope.specs.Promises.{Promise-order};
-ghost use Rattle.scope.specs.MirrorScope.{noRung, scope-0, stepIn, stepsIn, Spans, Fits, pushedOn, poppedFrom, lastOf};
+ghost use Rattle.scope.specs.MirrorScope.{noRung, scope-0, Spans, Fits, pushedOn, poppedFrom, lastOf};
 ghost use Rattle.scope.specs.MirrorQuery.{taggedOf, itemOf, wordOut, reachedOf, noScope, askedScopeOf, noPath, askedPathOf, noName, askedNameOf};
 ghost use Rattle.refusal.specs.MeaningAnswer.{done};
 use refusal::Refusal;
@@ -485,7 +485,7 @@ pub fn read_resolve(query: &[u8]) -> AskedName
 // Whether two steps are equal, each in the bytes that its name stands in.
 pub fn same_step(reading: Reading, s: &[u8], a: Rung, t: &[u8], b: Rung) -> bool
     requires { ⌜ Spans (now s) a × Spans (now t) b ⌝ }
-    ensures { λ r. ⌜ r ≡ sameStep (toldReading reading) (stepIn (now (s .entry)) a) (stepIn (now (t .entry)) b) ⌝ }
+    ensures { λ r. ⌜ r ≡ sameStep (toldReading reading) (toldStep (now (s .entry)) a) (toldStep (now (t .entry)) b) ⌝ }
 {
     let x = a.kind;
     let y = b.kind;
@@ -502,7 +502,7 @@ pub fn same_step(reading: Reading, s: &[u8], a: Rung, t: &[u8], b: Rung) -> bool
 // Whether the second scope starts with the first.
 fn starts_with(reading: Reading, s: &[u8], a: Scope, t: &[u8], b: Scope) -> bool
     requires { ⌜ Fits (now s) a × Fits (now t) b ⌝ }
-    ensures { λ r. ⌜ r ≡ starts (toldReading reading) (stepsIn (now (s .entry)) a) (stepsIn (now (t .entry)) b) ⌝ }
+    ensures { λ r. ⌜ r ≡ starts (toldReading reading) (toldScope (now (s .entry)) a) (toldScope (now (t .entry)) b) ⌝ }
 {
     let n = a.count;
     if b.count < n {
@@ -529,7 +529,7 @@ fn starts_with(reading: Reading, s: &[u8], a: Scope, t: &[u8], b: Scope) -> bool
 // One scope against another: each starts the other where they are equal.
 fn compare(reading: Reading, s: &[u8], a: Scope, t: &[u8], b: Scope) -> Compared
     requires { ⌜ Fits (now s) a × Fits (now t) b ⌝ }
-    ensures { λ r. ⌜ toldCompared r ≡ done (compared (toldReading reading) (stepsIn (now (s .entry)) a) (stepsIn (now (t .entry)) b)) ⌝ }
+    ensures { λ r. ⌜ toldCompared r ≡ done (compared (toldReading reading) (toldScope (now (s .entry)) a) (toldScope (now (t .entry)) b)) ⌝ }
 {
     let below = starts_with(reading, t, b, s, a);
     if starts_with(reading, s, a, t, b) {

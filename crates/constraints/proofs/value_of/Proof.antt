@@ -1,6 +1,6 @@
 -- `value_of`: the expression stands in the nodes, and its list behind the records.
 use native.Mathlib.Omega.{arith}
-use Rattle.constraints.proofs.Standing.{list-none, list-order, list-inside, list-node, list-rows, list-valued}
+use Rattle.constraints.proofs.Standing.{list-none, list-order, list-inside, list-node, list-rows, list-valued, standing-stays}
 use borrow.Author.Needs.{needs}
 use Rattle.constraints.proofs.value_of.Statement.{statement}
 use Rattle.constraints.proofs.value_of.Tie as tie
@@ -22,7 +22,7 @@ returns c =
     let a = c .before .before .before .before .before .before .before .before .before .before in
     let m = c .before .before .before .before .before .combination in
     let f = c .before .if1 .taken in
-    list-none (a .args .streams) (a .args .workspace .now) (m .last .1 .1 .1 .0) (a .args .owner) (m .result) (m .ensures) f _ (c .of .ensures)
+    (list-none (a .args .streams) (a .args .workspace .now) (m .last .1 .1 .1 .0) (a .args .owner) (m .result) (m .ensures) f _ (c .of .ensures), λ b S. S)
 
 mul-value : tie.Need-mul-value
 mul-value c =
@@ -79,7 +79,7 @@ returns-2 c =
     let a = c .before .before .before .before .before .before .before .before .before .before .before .before .before .before .before in
     let m = c .before .before .before .before .before .before .before .before .before .before .combination in
     let f = c .before .before .before .before .before .before .if1 .left in
-    list-valued (a .args .streams) (a .args .workspace .now) (m .last .1 .1 .1 .0) (a .args .owner) (m .result) (m .ensures) (a .pre .0) f (c .before .before .value .result) (c .before .before .value .last .1 .0) (c .before .before .value .ensures) (c .before .before .value .kept .1 .0)
+    (list-valued (a .args .streams) (a .args .workspace .now) (m .last .1 .1 .1 .0) (a .args .owner) (m .result) (m .ensures) (a .pre .0) f (c .before .before .value .result) (c .before .before .value .last .1 .0) (c .before .before .value .ensures) (c .before .before .value .kept .1 .0), standing-stays (a .args .streams) (a .args .workspace .now) (c .before .before .value .last .1 .0) (c .before .before .value .kept .1 .0))
 
 pub value-of-spec : {M : Type 1} → statement M
 value-of-spec =

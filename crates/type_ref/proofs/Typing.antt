@@ -1,0 +1,174 @@
+-- What a path is, by its kind: the laws of `named` and `typed`.
+use mathlib.Core.Path.{_≡_, refl, sym, ap, _∙_, subst}
+use mathlib.Core.List.{List}
+use mathlib.Core.Bool.{Bool}
+use mathlib.Core.Option.{Option, none, some}
+use Prim.Native.Nat.{ℕ, _-_}
+use native.Mathlib.Omega.{arith}
+use lib.ListN.{length, getElem?}
+use Rattle.refusal.specs.MeaningAnswer.{Answer, done, refused, mapped}
+use Rattle.refusal.specs.declared.Refusal.{Refusal}
+use Rattle.sheet.specs.MeaningReading.{Reading}
+use Rattle.sheet.proofs.Choosing.{clash}
+use Rattle.schemas.specs.MeaningSchemas.{Schema}
+use Rattle.scope.specs.MeaningScope as meaning
+use Rattle.scope.specs.MeaningScope.{ScopeType, placeOf}
+use Rattle.scope.specs.MeaningScope.ScopeType.{entity, alias, function, procedure, query, repeat, rule, schema, subType, type}
+use Rattle.scope.specs.MeaningQuery.{pathQuery}
+use Rattle.scope.specs.Told.{toldKind, toldStep, toldPath}
+use Rattle.scope.specs.MirrorScope.{pathIn}
+use Rattle.scope.specs.MirrorQuery.{askedPathOf}
+use Rattle.scope.specs.declared.Path.{Path}
+use Rattle.scope.specs.declared.AskedPath.{AskedPath}
+use Rattle.lookup.specs.declared.Sought.{Sought}
+use Rattle.lookup.specs.declared.Sought.the-variants.{At, Past}
+use Rattle.namespace.specs.MeaningNamespace.{Declaration, declarations, declarationFor}
+use Rattle.namespace.specs.MeaningOrder.{schemasIn}
+use Rattle.namespace.specs.MirrorNamespace.{soughtOf}
+use Rattle.namespace.proofs.Numbering.{at-number}
+use Rattle.namespace.proofs.Proved.{get-lowest}
+use Rattle.namespace.proofs.Asking.{path-back, path-scope, path-item}
+use Rattle.constraints.specs.MeaningQuestions.{isSupertype}
+use Rattle.type_ref.specs.MeaningTypes.{an-entity-type, Walks, isEnumeration, byKind}
+use Rattle.type_ref.specs.Told.{toldTypeRef}
+use Rattle.type_ref.specs.MirrorTypes.{walkedBy}
+use Rattle.type_ref.specs.MirrorCode.{toldWalked, GivenPath, NamedAs, TypedAs}
+use Rattle.type_ref.specs.declared.Walked.{Walked}
+use Rattle.type_ref.specs.declared.Walked.the-variants as walked
+use Rattle.type_ref.specs.declared.TypeRef.{TypeRef}
+use Rattle.type_ref.specs.declared.TypeRef.the-variants.{Named, Entity, Refused}
+use Rattle.type_ref.proofs.Walking.{walks-by-number, not-declared, answers}
+
+-- ---- a type
+
+found : (o : Option Declaration) (n : ℕ) → At n ≡ soughtOf o → (d : Declaration) × (o ≡ some d) × (d .number ≡ n)
+unfolding soughtOf
+found none n e = clash (cc)
+found (some d) n e = (d, refl, (let z : d .number ≡ n = cc in z))
+
+lost : (o : Option Declaration) (n : ℕ) → Past n ≡ soughtOf o → o ≡ none
+unfolding soughtOf
+lost none n e = refl
+lost (some d) n e = clash (cc)
+
+module _ (rd : Reading) (s q : List ℕ) (x : Path) (v : Sought) (vv : v ≡ soughtOf (declarationFor rd (schemasIn s) (toldPath q x))) where
+  abbrev xs : List Schema
+  xs = schemasIn s
+
+  abbrev p : meaning.Path
+  p = toldPath q x
+
+  pub named-none : (n : ℕ) → v ≡ Past n → (why : Refusal) → why ≡ record { number = 7; place = 0 } → NamedAs rd (schemasIn s) q x (Refused why)
+  unfolding toldTypeRef byKind
+  named-none n e why k = record { walked = refused 7 0; walks = not-declared rd xs p (lost (declarationFor rd xs p) n (sym e ∙ vv)); is = tells; given = tt }
+    where
+      tells : toldTypeRef q (Refused why) ≡ byKind rd xs p (refused 7 0) type
+      tells = rw k refl
+
+  module _ (n : ℕ) (e : v ≡ At n) (k : Walked) (kk : toldWalked k ≡ walkedBy rd xs (length (declarations xs) - 1) n) where
+    leads : (d : Declaration) × (declarationFor rd xs p ≡ some d) × (d .number ≡ n)
+    leads = found (declarationFor rd xs p) n (sym e ∙ vv)
+
+    walks : Walks rd xs p (toldWalked k)
+    walks = let d = leads in subst (Walks rd xs p) (ap (λ (m : ℕ). walkedBy rd xs (length (declarations xs) - 1) m) (d .2) ∙ sym kk) (walks-by-number rd xs p (d .0) (d .1))
+
+    flags : (flag : Bool) → ((r : Reading) → flag ≡ isEnumeration r xs (getElem? (declarations xs) n)) → flag ≡ isEnumeration rd xs (declarationFor rd xs p)
+    flags flag f =
+        let d = leads in
+        f rd ∙ ap (isEnumeration rd xs) (ap (getElem? (declarations xs)) (sym (d .2)) ∙ at-number xs (d .0) (get-lowest rd xs p (d .0) (d .1) .0) .1 ∙ sym (d .1))
+
+    pub named-ends : (flag : Bool) → ((r : Reading) → flag ≡ isEnumeration r (schemasIn s) (getElem? (declarations (schemasIn s)) n)) → (b : Bool) → k ≡ walked.Ends b → NamedAs rd (schemasIn s) q x (Named (record { path = x; «is_simple» = b; «is_enumerate» = flag }))
+    unfolding toldWalked toldTypeRef byKind
+    named-ends flag f b z = record { walked = done b; walks = subst (Walks rd xs p) (ap toldWalked z) walks; is = tells; given = refl }
+      where
+        tells : toldTypeRef q (Named (record { path = x; «is_simple» = b; «is_enumerate» = flag })) ≡ byKind rd xs p (done b) type
+        tells = rw (flags flag f) refl
+
+    pub named-refused : (why : Refusal) → k ≡ walked.Refused why → NamedAs rd (schemasIn s) q x (Refused why)
+    unfolding toldWalked toldTypeRef byKind
+    named-refused why z = record { walked = refused (why .number) (why .place); walks = subst (Walks rd xs p) (ap toldWalked z) walks; is = tells; given = tt }
+      where
+        tells : toldTypeRef q (Refused why) ≡ byKind rd xs p (refused (why .number) (why .place)) type
+        tells = refl
+
+pub ruleset naming = (named-none, named-ends, named-refused)
+
+-- ---- by its kind
+
+is-entity : (k : ScopeType) → placeOf k ≡ 0 → k ≡ entity
+is-entity entity e = refl
+is-entity alias e = absurd (omega arith)
+is-entity function e = absurd (omega arith)
+is-entity procedure e = absurd (omega arith)
+is-entity query e = absurd (omega arith)
+is-entity repeat e = absurd (omega arith)
+is-entity rule e = absurd (omega arith)
+is-entity schema e = absurd (omega arith)
+is-entity subType e = absurd (omega arith)
+is-entity type e = absurd (omega arith)
+
+is-type : (k : ScopeType) → placeOf k ≡ 9 → k ≡ type
+is-type entity e = absurd (omega arith)
+is-type alias e = absurd (omega arith)
+is-type function e = absurd (omega arith)
+is-type procedure e = absurd (omega arith)
+is-type query e = absurd (omega arith)
+is-type repeat e = absurd (omega arith)
+is-type rule e = absurd (omega arith)
+is-type schema e = absurd (omega arith)
+is-type subType e = absurd (omega arith)
+is-type type e = refl
+
+is-neither : (rd : Reading) (xs : List Schema) (p : meaning.Path) (w : Answer Bool) (k : ScopeType) → (placeOf k ≡ 0 → ⊥) → (placeOf k ≡ 9 → ⊥) → byKind rd xs p w k ≡ refused 14 0
+unfolding byKind
+is-neither rd xs p w entity a b = absurd (a refl)
+is-neither rd xs p w alias a b = refl
+is-neither rd xs p w function a b = refl
+is-neither rd xs p w procedure a b = refl
+is-neither rd xs p w query a b = refl
+is-neither rd xs p w repeat a b = refl
+is-neither rd xs p w rule a b = refl
+is-neither rd xs p w schema a b = refl
+is-neither rd xs p w subType a b = refl
+is-neither rd xs p w type a b = absurd (b refl)
+
+module _ (q : List ℕ) (a : AskedPath) (h : a ≡ askedPathOf (pathQuery q)) where
+  module _ (p : meaning.Path) (e : pathQuery q ≡ done p) where
+    path-is : a .path ≡ pathIn p
+    unfolding askedPathOf
+    path-is = ap (λ (z : AskedPath). z .path) (h ∙ ap askedPathOf e)
+
+    told-back : toldPath q (a .path) ≡ p
+    told-back = ap (toldPath q) path-is ∙ path-back q p e
+
+    kind-is : placeOf (toldKind (a .path .item .kind)) ≡ placeOf (p .item .kind)
+    unfolding toldPath toldStep
+    kind-is = ap (λ (z : meaning.Path). placeOf (z .item .kind)) told-back
+
+  module _ (rd : Reading) (s : List ℕ) (k : ℕ) (kk : k ≡ placeOf (toldKind (a .path .item .kind))) where
+    pub typed-entity : k ≡ 0 → (b : Bool) (p : meaning.Path) → pathQuery q ≡ done p → TypedAs rd (schemasIn s) q b p (Entity (record { path = a .path; «is_supertype» = b }))
+    unfolding toldTypeRef byKind
+    typed-entity z b p e = let w = answers rd (schemasIn s) p in record { walked = w .0; walks = w .1; is = tells (w .0); given = path-is p e }
+      where
+        tells : (w : Answer Bool) → isSupertype rd (schemasIn s) p ≡ done b → toldTypeRef q (Entity (record { path = a .path; «is_supertype» = b })) ≡ byKind rd (schemasIn s) p w (p .item .kind)
+        tells w f =
+            ap (λ (y : meaning.Path). done (an-entity-type (record { path = y; is-supertype = b }))) (told-back p e)
+            ∙ sym (ap (byKind rd (schemasIn s) p w) (is-entity (p .item .kind) (sym (kind-is p e) ∙ sym kk ∙ z)) ∙ ap (mapped (λ (c : Bool). an-entity-type (record { path = p; is-supertype = c }))) f)
+
+    pub typed-named : k ≡ 9 → (r : TypeRef) → NamedAs rd (schemasIn s) q (a .path) r → (b : Bool) (p : meaning.Path) → pathQuery q ≡ done p → TypedAs rd (schemasIn s) q b p r
+    typed-named z r N b p e =
+        record {
+          walked = N .walked;
+          walks = subst (λ (y : meaning.Path). Walks rd (schemasIn s) y (N .walked)) (told-back p e) (N .walks);
+          is = λ f. N .is ∙ ap (λ (y : meaning.Path). byKind rd (schemasIn s) y (N .walked) type) (told-back p e) ∙ ap (byKind rd (schemasIn s) p (N .walked)) (sym (is-type (p .item .kind) (sym (kind-is p e) ∙ sym kk ∙ z)));
+          given = subst (λ (y : Path). GivenPath y r) (path-is p e) (N .given);
+        }
+
+    pub typed-neither : (k ≡ 0 → ⊥) → (k ≡ 9 → ⊥) → (why : Refusal) → why ≡ record { number = 14; place = 0 } → (b : Bool) (p : meaning.Path) → pathQuery q ≡ done p → TypedAs rd (schemasIn s) q b p (Refused why)
+    unfolding toldTypeRef
+    typed-neither y z why i b p e =
+        let w = answers rd (schemasIn s) p in
+        let j = kk ∙ kind-is p e in
+        record { walked = w .0; walks = w .1; is = λ f. rw i (sym (is-neither rd (schemasIn s) p (w .0) (p .item .kind) (λ g. y (j ∙ g)) (λ g. z (j ∙ g)))); given = tt }
+
+pub ruleset typing = (path-scope, path-item, typed-entity, typed-named, typed-neither)
