@@ -1,8 +1,11 @@
-// A result buffer: the pattern that it is lent with, and what was changed in it.
+// What is lent, a result buffer or a workspace: the pattern that it is lent with, and what became of it.
 ghost use mathlib.Core.Path.{_≡_};
 ghost use Prim.Native.Nat.{_+_, _≤_, _%_};
 ghost use lib.ListN.{length};
 ghost use Rattle.lines.specs.Places.{Written};
+ghost use Rattle.lines.specs.Values.{AtMost};
+use crate::values::Number;
+use crate::values::decimal_to;
 use crate::writing::hex;
 use crate::writing::text;
 
@@ -13,8 +16,16 @@ fn lent(place: usize) -> u16
     (40000 + place % 20000) as u16
 }
 
+// How many of the numbers are lent, as the word says. All are filled, so a change past them would show.
+pub fn lend(word: &[u8], buffer: &mut [u16]) -> Number
+    ensures { λ r. ⌜ AtMost (length (now (buffer .exit))) r ⌝ }
+{
+    fill(buffer);
+    decimal_to(word, buffer.len())
+}
+
 // Fills a buffer with the pattern.
-pub fn lend(buffer: &mut [u16])
+fn fill(buffer: &mut [u16])
     ensures { λ _. ⌜ length (now (buffer .exit)) ≡ length (now (buffer .entry)) ⌝ }
 {
     let mut i = 0;
@@ -38,11 +49,36 @@ fn changed(buffer: &[u16]) -> usize
     0
 }
 
-// An answer's last part: what was changed in the buffer.
+// What was changed in the buffer.
 pub fn changes(out: &mut [u8], at: usize, buffer: &[u16]) -> usize
     ensures { λ r. ⌜ Written at r (now (out .entry)) (now (out .exit)) ⌝ }
 {
     let end = text(out, at, b" out ");
     let count = changed(buffer);
     hex(out, end, &buffer[0..count])
+}
+
+fn is_zero(workspace: &[u16]) -> bool {
+    let mut i = 0;
+    while i < workspace.len() {
+        if workspace[i] != 0 {
+            return false;
+        }
+        i += 1;
+    }
+    true
+}
+
+// An answer's last part: how the workspace was given back.
+pub fn state(out: &mut [u8], at: usize, workspace: &[u16]) -> usize
+    ensures { λ r. ⌜ Written at r (now (out .entry)) (now (out .exit)) ⌝ }
+{
+    let end = text(out, at, b" ws ");
+    if changed(workspace) == 0 {
+        return text(out, end, b"left");
+    }
+    if is_zero(workspace) {
+        return text(out, end, b"zero");
+    }
+    text(out, end, b"other")
 }

@@ -6,6 +6,7 @@ mod writing;
 
 pub use lent::changes;
 pub use lent::lend;
+pub use lent::state;
 pub use values::Number;
 pub use values::bytes;
 pub use values::decimal_of;

@@ -23,16 +23,12 @@ pub index-fits : (r : Number) (n : ℕ) → r ≡ Is n → AtMost 65535 r → n 
 index-fits r n e f = let g : n ≤ 65535 = rw e at f in omega arith
 
 -- what is lent of a buffer
-pub lent-within : (r : Number) (before after : List ℕ) → length after ≡ length before → length before ≡ 1664 → AtMost 1664 r → AtMost (length after) r
-lent-within r before after e f g = rw (e, f) g
-
 pub lent-inside : (r : Number) (n : ℕ) (buffer : List ℕ) → r ≡ Is n → AtMost (length buffer) r → n ≤ length buffer
 lent-inside r n buffer e f = rw e at f
 
-pub lent-short : (r : Number) (n : ℕ) (buffer : List ℕ) → r ≡ Is n → AtMost (length buffer) r → AtMost 1664 r → length (take (n - 0) buffer) ≤ 1664
+pub lent-short : (r : Number) (n : ℕ) (buffer : List ℕ) → r ≡ Is n → AtMost (length buffer) r → length buffer ≡ 1664 → length (take (n - 0) buffer) ≤ 1664
 lent-short r n buffer e f g =
     let h : n ≤ length buffer = lent-inside r n buffer e f in
-    let k : n ≤ 1664 = rw e at g in
     omega (arith, length-take-le (n - 0) buffer (omega arith))
 
 -- the nodes that were read
@@ -45,4 +41,4 @@ nodes-stand r n before after e f =
     let same : n - 0 ≡ n = omega arith in
     rw (same, b .front) (record { expr = b .thing; is = refl; high = b .deep })
 
-pub ruleset parts = (decoded-inside, index-fits, lent-within, lent-inside)
+pub ruleset parts = (decoded-inside, index-fits, lent-inside)

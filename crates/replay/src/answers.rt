@@ -1,11 +1,14 @@
-// Answers in words: what was listed, found, compared, judged or refused, and what changed in the lent buffer.
+// Answers in words: what was listed, found, compared, judged, decided or refused, and what changed in the lent buffer.
 use algebra::Compared;
 use complex_entity::Order;
+use constraints::Decision;
+use expression::Numbered;
 use instantiables::Listed;
 use namespace::Found;
 use refusal::Refusal;
 use scope::Verdict;
 use sheet::Judgement;
+use type_ref::TypeRef;
 
 // The longest buffer that is lent.
 pub const BUFFER: usize = 1664;
@@ -31,6 +34,13 @@ pub fn found(out: &mut [u8], told: Found) -> usize {
     match told {
         Found::Refused(why) => refused(out, why),
         Found::Number(index) => number(out, index as usize),
+    }
+}
+
+pub fn numbered(out: &mut [u8], told: Numbered) -> usize {
+    match told {
+        Numbered::Refused(why) => refused(out, why),
+        Numbered::Number(place) => number(out, place),
     }
 }
 
@@ -83,6 +93,36 @@ pub fn cleared(out: &mut [u8], told: Verdict) -> usize {
         Verdict::Refused(why) => refused(out, why),
         Verdict::Done => lines::text(out, 0, b"ok"),
     }
+}
+
+pub fn decided(out: &mut [u8], told: Decision) -> usize {
+    match told {
+        Decision::Refused(why) => refused(out, why),
+        Decision::Yes => lines::text(out, 0, b"ok 1"),
+        Decision::No => lines::text(out, 0, b"ok 0"),
+    }
+}
+
+pub fn typed(out: &mut [u8], told: TypeRef) -> usize {
+    match told {
+        TypeRef::Refused(why) => refused(out, why),
+        TypeRef::Entity(entity) => {
+            let start = lines::text(out, 0, b"ok entity");
+            flag(out, start, entity.is_supertype)
+        }
+        TypeRef::Named(named) => {
+            let start = lines::text(out, 0, b"ok named");
+            let middle = flag(out, start, named.is_simple);
+            flag(out, middle, named.is_enumerate)
+        }
+    }
+}
+
+fn flag(out: &mut [u8], at: usize, is_so: bool) -> usize {
+    if is_so {
+        return lines::text(out, at, b" 1");
+    }
+    lines::text(out, at, b" 0")
 }
 
 fn refused(out: &mut [u8], why: Refusal) -> usize {

@@ -1,4 +1,4 @@
-// Answers the questions on parts, lists, expressions, sheets and names, a line each, from standard input to standard output.
+// Answers the questions on parts, lists, expressions, sheets, names, supertypes and types, a line each, from standard input to standard output.
 ghost use Prim.Native.Nat.{_≤_};
 ghost use lib.ListN.{length};
 
@@ -6,6 +6,7 @@ mod answers;
 mod names;
 mod operators;
 mod questions;
+mod supertypes;
 mod valuing;
 
 use libc::STDIN_FILENO;

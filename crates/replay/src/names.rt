@@ -1,10 +1,11 @@
-// The questions on a sheet, alone or with a query or an index, and on two queries.
+// The questions on a sheet, alone or with a query or an index, and on two queries; those with a workspace are handed on.
 use crate::answers::cleared;
 use crate::answers::found;
 use crate::answers::judged;
 use crate::answers::part;
 use crate::answers::placed;
 use crate::answers::unknown;
+use crate::supertypes::of_workspace;
 use lines::Number;
 use namespace::as_path;
 use namespace::get;
@@ -18,7 +19,7 @@ use sheet::verdict;
 const SHEET: usize = 65600;
 
 // A good query has at most 140 bytes, the longest that is asked 307.
-const QUERY: usize = 4096;
+pub const QUERY: usize = 4096;
 
 pub fn of_sheet(line: &[u8], out: &mut [u8]) -> usize {
     let mut bytes = [0u8; SHEET];
@@ -37,7 +38,10 @@ fn of_bytes(line: &[u8], out: &mut [u8], sheet: &[u8]) -> usize {
     if lines::among(name, b"resolve get") {
         return of_query(line, out, sheet);
     }
-    of_index(line, out, sheet)
+    if lines::among(name, b"schema_name item_name as_path") {
+        return of_index(line, out, sheet);
+    }
+    of_workspace(line, out, sheet)
 }
 
 fn of_query(line: &[u8], out: &mut [u8], sheet: &[u8]) -> usize {

@@ -1,6 +1,4 @@
 // The questions: each shape of words is decoded, asked as it stands, malformed or not, and answered.
-ghost use lib.ListN.{length};
-ghost use Rattle.lines.specs.Values.{AtMost};
 ghost use Rattle.expression.specs.MirrorNodes.{Node};
 use crate::answers::BUFFER;
 use crate::answers::compared;
@@ -27,6 +25,12 @@ const NODES: usize = 1539;
 pub fn answer(line: &[u8], out: &mut [u8]) -> usize {
     let name = lines::word(line, 0);
     if lines::among(name, b"verdict resolve get schema_name item_name as_path") {
+        return of_sheet(line, out);
+    }
+    if lines::among(
+        name,
+        b"is_supertype supertype list number_of set_at from_path",
+    ) {
         return of_sheet(line, out);
     }
     if lines::is(name, b"scope_order") {
@@ -70,7 +74,7 @@ fn of_nodes(line: &[u8], out: &mut [u8], nodes: &[u16]) -> usize
     requires { ⌜ Node (now nodes) 12 ⌝ }
 {
     let mut buffer = [0u16; BUFFER];
-    let Number::Is(size) = lend(lines::word(line, 2), &mut buffer) else {
+    let Number::Is(size) = lines::lend(lines::word(line, 2), &mut buffer) else {
         return unknown(out);
     };
     let told = value(nodes, &mut buffer[0..size]);
@@ -83,7 +87,7 @@ fn new(line: &[u8], out: &mut [u8]) -> usize {
     let Number::Is(count) = lines::numbers(lines::word(line, 1), &mut indices) else {
         return unknown(out);
     };
-    let Number::Is(size) = lend(lines::word(line, 2), &mut buffer) else {
+    let Number::Is(size) = lines::lend(lines::word(line, 2), &mut buffer) else {
         return unknown(out);
     };
     let told = algebra::new(&indices[0..count], &mut buffer[0..size]);
@@ -95,7 +99,7 @@ fn single(line: &[u8], out: &mut [u8]) -> usize {
     let Number::Is(index) = lines::decimal_to(lines::word(line, 1), 65535) else {
         return unknown(out);
     };
-    let Number::Is(size) = lend(lines::word(line, 2), &mut buffer) else {
+    let Number::Is(size) = lines::lend(lines::word(line, 2), &mut buffer) else {
         return unknown(out);
     };
     let told = algebra::single(index as u16, &mut buffer[0..size]);
@@ -122,18 +126,9 @@ fn of_words(line: &[u8], out: &mut [u8], first: &[u16], second: &[u16]) -> usize
         return compared(out, algebra::compare(first, second));
     }
     let mut buffer = [0u16; BUFFER];
-    let Number::Is(size) = lend(lines::word(line, 3), &mut buffer) else {
+    let Number::Is(size) = lines::lend(lines::word(line, 3), &mut buffer) else {
         return unknown(out);
     };
     let told = ask(name, first, second, &mut buffer[0..size]);
     listed(out, told, &buffer)
-}
-
-// How many of the buffer's numbers are lent, as the word says. All are filled, so a change past them would show.
-fn lend(word: &[u8], buffer: &mut [u16; BUFFER]) -> Number
-    ensures within { λ r. ⌜ AtMost (length (now (buffer .exit))) r ⌝ }
-    ensures small { λ r. ⌜ AtMost 1664 r ⌝ }
-{
-    lines::lend(buffer);
-    lines::decimal_to(word, BUFFER)
 }

@@ -31,6 +31,9 @@ returns c = search needs
 word-requires-2 : tie.Need-word-requires-2
 word-requires-2 c κs = search needs
 
+slice-aggregate-lend : tie.Need-slice-aggregate-lend
+slice-aggregate-lend c = search needs
+
 lend-requires : tie.Need-lend-requires
 lend-requires c κs = search needs
 
@@ -92,6 +95,7 @@ new-spec =
     same-length
     returns
     word-requires-2
+    slice-aggregate-lend
     lend-requires
     enum-known-size
     enum-told-2

@@ -7,6 +7,9 @@ use Rattle.replay.proofs.questions.of_nodes.Tie as tie
 word-requires : tie.Need-word-requires
 word-requires c κs = search needs
 
+slice-aggregate-lend : tie.Need-slice-aggregate-lend
+slice-aggregate-lend c = search needs
+
 lend-requires : tie.Need-lend-requires
 lend-requires c κs = search needs
 
@@ -35,7 +38,7 @@ part-buffer-end : tie.Need-part-buffer-end
 part-buffer-end c = search (parts, needs)
 
 value-requires : tie.Need-value-requires
-value-requires c κs = (c .before .before .before .before .before .before .before .before .before .before .pre, lent-short _ _ (c .before .before .before .before .lend .last .1 .0) (c .before .before .size .given .1) (c .before .before .before .before .lend .ensures .0) (c .before .before .before .before .lend .ensures .1))
+value-requires c κs = (c .before .before .before .before .before .before .before .before .before .before .before .pre, lent-short _ _ (c .before .before .before .before .before .lend .last .1 .0) (c .before .before .size .given .1) (c .before .before .before .before .before .lend .ensures) (search needs))
 
 listed-requires : tie.Need-listed-requires
 listed-requires c κs = search needs
@@ -51,6 +54,7 @@ of-nodes-spec =
     tie.close
     (tie.spec
     word-requires
+    slice-aggregate-lend
     lend-requires
     enum-known-size
     enum-told

@@ -4,8 +4,8 @@ use lib.ListN.{length}
 use Prim.Native.Nat.{_-_}
 use Rattle.lines.proofs.Fills.{fills}
 use Rattle.lines.specs.Places.{Filled}
-use Rattle.lines.proofs.lent.lend.Statement.{statement}
-use Rattle.lines.proofs.lent.lend.Tie as tie
+use Rattle.lines.proofs.lent.fill.Statement.{statement}
+use Rattle.lines.proofs.lent.fill.Tie as tie
 
 abbrev Inv-loop : tie.InvT-loop
 Inv-loop buffer₀ i₀ buffer i = Filled i buffer₀ buffer
@@ -40,8 +40,8 @@ same-length c = search (fills, needs)
 returns : tie.Need-returns Inv-loop μ-loop
 returns c = search (fills, needs)
 
-pub lend-spec : {M : Type 1} → statement M
-lend-spec =
+pub fill-spec : {M : Type 1} → statement M
+fill-spec =
     tie.close
     (tie.spec
     Inv-loop

@@ -1,0 +1,128 @@
+// The questions on a sheet with a workspace: supertypes, their lists and the sets in these, types.
+use crate::answers::BUFFER;
+use crate::answers::decided;
+use crate::answers::found;
+use crate::answers::listed;
+use crate::answers::numbered;
+use crate::answers::typed;
+use crate::answers::unknown;
+use crate::names::QUERY;
+use constraints::is_supertype;
+use constraints::list;
+use constraints::number_of;
+use constraints::row_at;
+use constraints::supertype_at;
+use lines::Number;
+use type_ref::from_path;
+
+// The longest workspace that is lent.
+const WORKSPACE: usize = 65535;
+
+// A good row has 13 numbers, the longest word that is asked for one 26.
+const ROW: usize = 1690;
+
+pub fn of_workspace(line: &[u8], out: &mut [u8], sheet: &[u8]) -> usize {
+    let mut workspace = [0u16; WORKSPACE];
+    let word = workspace_word(lines::word(line, 0));
+    let Number::Is(size) = lines::lend(lines::word(line, word), &mut workspace) else {
+        return unknown(out);
+    };
+    with_workspace(line, out, sheet, &mut workspace[0..size])
+}
+
+// The answer, then how the workspace was given back.
+fn with_workspace(line: &[u8], out: &mut [u8], sheet: &[u8], workspace: &mut [u16]) -> usize {
+    let end = asked(line, out, sheet, workspace);
+    lines::state(out, end, workspace)
+}
+
+// Which of the line's words is the workspace's length.
+fn workspace_word(name: &[u8]) -> usize {
+    if lines::among(name, b"number_of set_at") {
+        return 4;
+    }
+    3
+}
+
+fn asked(line: &[u8], out: &mut [u8], sheet: &[u8], workspace: &mut [u16]) -> usize {
+    if lines::is(lines::word(line, 0), b"supertype") {
+        return supertype(line, out, sheet, workspace);
+    }
+    let mut query = [0u8; QUERY];
+    let Number::Is(count) = lines::bytes(lines::word(line, 2), &mut query) else {
+        return unknown(out);
+    };
+    of_path(line, out, sheet, &query[0..count], workspace)
+}
+
+fn supertype(line: &[u8], out: &mut [u8], sheet: &[u8], workspace: &mut [u16]) -> usize {
+    let Number::Is(place) = lines::decimal_of(lines::word(line, 2)) else {
+        return unknown(out);
+    };
+    found(out, supertype_at(sheet, place, workspace))
+}
+
+// A query as it was read.
+fn of_path(
+    line: &[u8],
+    out: &mut [u8],
+    sheet: &[u8],
+    query: &[u8],
+    workspace: &mut [u16],
+) -> usize {
+    let name = lines::word(line, 0);
+    if lines::is(name, b"is_supertype") {
+        return decided(out, is_supertype(sheet, query, workspace));
+    }
+    if lines::is(name, b"from_path") {
+        return typed(out, from_path(sheet, query, workspace));
+    }
+    if lines::is(name, b"number_of") {
+        return of_row(line, out, sheet, query, workspace);
+    }
+    if lines::is(name, b"set_at") {
+        return of_number(line, out, sheet, query, workspace);
+    }
+    all_rows(line, out, sheet, query, workspace)
+}
+
+fn of_row(line: &[u8], out: &mut [u8], sheet: &[u8], query: &[u8], workspace: &mut [u16]) -> usize {
+    let mut row = [0u16; ROW];
+    let Number::Is(count) = lines::numbers(lines::word(line, 3), &mut row) else {
+        return unknown(out);
+    };
+    numbered(out, number_of(sheet, query, &row[0..count], workspace))
+}
+
+fn of_number(
+    line: &[u8],
+    out: &mut [u8],
+    sheet: &[u8],
+    query: &[u8],
+    workspace: &mut [u16],
+) -> usize {
+    let mut buffer = [0u16; BUFFER];
+    let Number::Is(number) = lines::decimal_of(lines::word(line, 3)) else {
+        return unknown(out);
+    };
+    let Number::Is(size) = lines::lend(lines::word(line, 5), &mut buffer) else {
+        return unknown(out);
+    };
+    let told = row_at(sheet, query, number, workspace, &mut buffer[0..size]);
+    listed(out, told, &buffer)
+}
+
+fn all_rows(
+    line: &[u8],
+    out: &mut [u8],
+    sheet: &[u8],
+    query: &[u8],
+    workspace: &mut [u16],
+) -> usize {
+    let mut buffer = [0u16; BUFFER];
+    let Number::Is(size) = lines::lend(lines::word(line, 4), &mut buffer) else {
+        return unknown(out);
+    };
+    let told = list(sheet, query, workspace, &mut buffer[0..size]);
+    listed(out, told, &buffer)
+}
