@@ -57,6 +57,11 @@ module _ (v : Valued) (rows : List ℕ) (why : Refusal) (e : v ≡ Refused why) 
 
 -- ---- a list that stands there
 
+pub stands-handed : (rows out out' : List ℕ) (n : ℕ) (r : Listed) → Stands rows n → Handed (done n) rows out (toldListed r) out' → Answers (fitting (length out) (partsAt n rows)) out r out'
+stands-handed rows out out' n r s h =
+    let l = parts-length n rows in
+    hand-answers (done (partsAt n rows)) rows out (listed.Rows (record { count = n })) r out' (record { says = rw l refl; front = rw l (s .clean); within = omega (arith, s .small, s .room) }) h
+
 module _ (v : Valued) (w : List ℕ) (k : Value) (e : v ≡ Is k) (S : StandsIf v (drop 2048 w)) where
   stands : Stands (drop 2048 w) (k .count)
   unfolding StandsIf
@@ -76,10 +81,7 @@ module _ (v : Valued) (w : List ℕ) (k : Value) (e : v ≡ Is k) (S : StandsIf 
 
   pub list-handed : (out out' : List ℕ) (r : Listed) → Handed (done (k .count)) (take (length w - 2048) (drop 2048 w)) out (toldListed r) out' → Answers (listInto (length out) (listAt v (drop 2048 w))) out r out'
   unfolding listInto listAt
-  list-handed out out' r h =
-      let n = parts-length (k .count) (drop 2048 w) in
-      rw e (hand-answers (done (partsAt (k .count) (drop 2048 w))) (drop 2048 w) out (listed.Rows (record { count = k .count })) r out'
-      (record { says = rw n refl; front = rw n (stands .clean); within = omega (arith, stands .small, stands .room) }) (rw whole-rest at h))
+  list-handed out out' r h = rw e (stands-handed (drop 2048 w) out out' (k .count) r stands (rw whole-rest at h))
 
   pub row-handed : (out out' : List ℕ) (i : ℕ) (made : Made) → made ≡ madeOf (setAt (partsAt (k .count) (take (length w - 2048) (drop 2048 w))) i) → (r : Listed)
       → ((o : Answer Part) → made ≡ madeOf o → Answers (setInto (length out) o) out r out') → Answers (rowInto (length out) i (listAt v (drop 2048 w))) out r out'

@@ -238,7 +238,7 @@ unfolding Holds
 found none l r h e = clash (cc)
 found (some d) l r h e = (d, refl, h .1, h .2, h .3)
 
-valued-is : (v : Valued) (rows : List ℕ) (e : Expr ℕ) → Valuing (eval e) rows (toldValued v) → 1664 ≤ length rows → (listAt v rows ≡ eval e) × StandsIf v rows
+pub valued-is : (v : Valued) (rows : List ℕ) (e : Expr ℕ) → Valuing (eval e) rows (toldValued v) → 1664 ≤ length rows → (listAt v rows ≡ eval e) × StandsIf v rows
 unfolding listAt StandsIf
 valued-is (Is k) rows e f h = let s = valued-stands e rows (k .count) f h in (sym (s .0), s .1)
 valued-is (Refused why) rows e f h = (by (eval e) (f .says), tt)

@@ -4,7 +4,6 @@ use mathlib.Core.List.{List}
 use Prim.Native.Nat.{ℕ, _-_, _≤_, _<_}
 use native.Mathlib.Omega.{arith}
 use lib.ListN.{length, take}
-use lib.Seq.{length-take-le}
 use Rattle.expression.specs.MirrorNodes.{Node}
 use Rattle.nodes.specs.MirrorBuilding.{an-expression, Reads}
 use Rattle.nodes.specs.declared.Built.{Built}
@@ -25,11 +24,6 @@ index-fits r n e f = let g : n ≤ 65535 = rw e at f in omega arith
 -- what is lent of a buffer
 pub lent-inside : (r : Number) (n : ℕ) (buffer : List ℕ) → r ≡ Is n → AtMost (length buffer) r → n ≤ length buffer
 lent-inside r n buffer e f = rw e at f
-
-pub lent-short : (r : Number) (n : ℕ) (buffer : List ℕ) → r ≡ Is n → AtMost (length buffer) r → length buffer ≡ 1664 → length (take (n - 0) buffer) ≤ 1664
-lent-short r n buffer e f g =
-    let h : n ≤ length buffer = lent-inside r n buffer e f in
-    omega (arith, length-take-le (n - 0) buffer (omega arith))
 
 -- the nodes that were read
 pub nodes-inside : {bytes : List ℕ} (r : Built) (n : ℕ) (before after : List ℕ) → r ≡ Used n → Reads an-expression bytes 12 0 before after r → n ≤ length after

@@ -59,6 +59,7 @@ fn answer_lines(text: &[u8]) -> usize
 // Reads once, answers what is whole and keeps the rest; answers how much that is.
 fn turn(text: &mut [u8], held: usize) -> usize
     requires { ⌜ held ≤ length (now text) ⌝ }
+    ensures { λ r. ⌜ r ≤ length (now (text .exit)) ⌝ }
 {
     let end = read_more(text, held);
     if end <= held {

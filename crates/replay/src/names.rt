@@ -1,4 +1,5 @@
 // The questions on a sheet, alone or with a query or an index, and on two queries; those with a workspace are handed on.
+ghost use Rattle.lines.specs.Places.{Written};
 use crate::answers::cleared;
 use crate::answers::found;
 use crate::answers::judged;
@@ -21,7 +22,9 @@ const SHEET: usize = 65600;
 // A good query has at most 140 bytes, the longest that is asked 307.
 pub const QUERY: usize = 4096;
 
-pub fn of_sheet(line: &[u8], out: &mut [u8]) -> usize {
+pub fn of_sheet(line: &[u8], out: &mut [u8]) -> usize
+    ensures { λ r. ⌜ Written 0 r (now (out .entry)) (now (out .exit)) ⌝ }
+{
     let mut bytes = [0u8; SHEET];
     let Number::Is(count) = lines::bytes(lines::word(line, 1), &mut bytes) else {
         return unknown(out);
@@ -30,7 +33,9 @@ pub fn of_sheet(line: &[u8], out: &mut [u8]) -> usize {
 }
 
 // A sheet as it was read.
-fn of_bytes(line: &[u8], out: &mut [u8], sheet: &[u8]) -> usize {
+fn of_bytes(line: &[u8], out: &mut [u8], sheet: &[u8]) -> usize
+    ensures { λ r. ⌜ Written 0 r (now (out .entry)) (now (out .exit)) ⌝ }
+{
     let name = lines::word(line, 0);
     if lines::is(name, b"verdict") {
         return judged(out, verdict(sheet));
@@ -44,7 +49,9 @@ fn of_bytes(line: &[u8], out: &mut [u8], sheet: &[u8]) -> usize {
     of_workspace(line, out, sheet)
 }
 
-fn of_query(line: &[u8], out: &mut [u8], sheet: &[u8]) -> usize {
+fn of_query(line: &[u8], out: &mut [u8], sheet: &[u8]) -> usize
+    ensures { λ r. ⌜ Written 0 r (now (out .entry)) (now (out .exit)) ⌝ }
+{
     let mut query = [0u8; QUERY];
     let Number::Is(count) = lines::bytes(lines::word(line, 2), &mut query) else {
         return unknown(out);
@@ -55,7 +62,9 @@ fn of_query(line: &[u8], out: &mut [u8], sheet: &[u8]) -> usize {
     found(out, get(sheet, &query[0..count]))
 }
 
-fn of_index(line: &[u8], out: &mut [u8], sheet: &[u8]) -> usize {
+fn of_index(line: &[u8], out: &mut [u8], sheet: &[u8]) -> usize
+    ensures { λ r. ⌜ Written 0 r (now (out .entry)) (now (out .exit)) ⌝ }
+{
     let Number::Is(index) = lines::decimal_to(lines::word(line, 2), 65535) else {
         return unknown(out);
     };
@@ -70,7 +79,9 @@ fn of_index(line: &[u8], out: &mut [u8], sheet: &[u8]) -> usize {
 }
 
 // How two scopes stand to each other.
-pub fn scope_order(line: &[u8], out: &mut [u8]) -> usize {
+pub fn scope_order(line: &[u8], out: &mut [u8]) -> usize
+    ensures { λ r. ⌜ Written 0 r (now (out .entry)) (now (out .exit)) ⌝ }
+{
     let mut first = [0u8; QUERY];
     let mut second = [0u8; QUERY];
     let Number::Is(left) = lines::bytes(lines::word(line, 1), &mut first) else {

@@ -1,8 +1,11 @@
 // The questions on two words and a buffer, each put to the function that the line names.
+ghost use Rattle.replay.specs.Asked.{SomeAnswer};
 use instantiables::Listed;
 
 // The name says what the two words are to be: parts, lists, or counts and rows.
-pub fn ask(name: &[u8], first: &[u16], second: &[u16], buffer: &mut [u16]) -> Listed {
+pub fn ask(name: &[u8], first: &[u16], second: &[u16], buffer: &mut [u16]) -> Listed
+    ensures { λ r. ⌜ SomeAnswer (now (buffer .entry)) r (now (buffer .exit)) ⌝ }
+{
     if lines::is(name, b"join") {
         return algebra::join(first, second, buffer);
     }
@@ -19,7 +22,9 @@ pub fn ask(name: &[u8], first: &[u16], second: &[u16], buffer: &mut [u16]) -> Li
 }
 
 // ONEOF, AND or ANDOR.
-fn of_several(name: &[u8], counts: &[u16], rows: &[u16], buffer: &mut [u16]) -> Listed {
+fn of_several(name: &[u8], counts: &[u16], rows: &[u16], buffer: &mut [u16]) -> Listed
+    ensures { λ r. ⌜ SomeAnswer (now (buffer .entry)) r (now (buffer .exit)) ⌝ }
+{
     if lines::is(name, b"oneof") {
         return algebra::oneof(counts, rows, buffer);
     }
@@ -29,14 +34,18 @@ fn of_several(name: &[u8], counts: &[u16], rows: &[u16], buffer: &mut [u16]) -> 
     algebra::andor(counts, rows, buffer)
 }
 
-fn of_part(name: &[u8], part: &[u16], list: &[u16], buffer: &mut [u16]) -> Listed {
+fn of_part(name: &[u8], part: &[u16], list: &[u16], buffer: &mut [u16]) -> Listed
+    ensures { λ r. ⌜ SomeAnswer (now (buffer .entry)) r (now (buffer .exit)) ⌝ }
+{
     if lines::is(name, b"part_add") {
         return algebra::part_add(part, list, buffer);
     }
     algebra::part_bitand(part, list, buffer)
 }
 
-fn with_part(name: &[u8], list: &[u16], part: &[u16], buffer: &mut [u16]) -> Listed {
+fn with_part(name: &[u8], list: &[u16], part: &[u16], buffer: &mut [u16]) -> Listed
+    ensures { λ r. ⌜ SomeAnswer (now (buffer .entry)) r (now (buffer .exit)) ⌝ }
+{
     if lines::is(name, b"add_part") {
         return algebra::add_part(list, part, buffer);
     }
@@ -49,7 +58,9 @@ fn with_part(name: &[u8], list: &[u16], part: &[u16], buffer: &mut [u16]) -> Lis
     algebra::div_part(list, part, buffer)
 }
 
-fn of_lists(name: &[u8], left: &[u16], right: &[u16], buffer: &mut [u16]) -> Listed {
+fn of_lists(name: &[u8], left: &[u16], right: &[u16], buffer: &mut [u16]) -> Listed
+    ensures { λ r. ⌜ SomeAnswer (now (buffer .entry)) r (now (buffer .exit)) ⌝ }
+{
     if lines::is(name, b"add") {
         return algebra::add(left, right, buffer);
     }

@@ -1,5 +1,6 @@
 // The questions: each shape of words is decoded, asked as it stands, malformed or not, and answered.
 ghost use Rattle.expression.specs.MirrorNodes.{Node};
+ghost use Rattle.lines.specs.Places.{Written};
 use crate::answers::BUFFER;
 use crate::answers::compared;
 use crate::answers::listed;
@@ -22,7 +23,9 @@ const FIELDS: usize = 2565;
 const NODES: usize = 1539;
 
 // Writes the answer to a line; answers its length.
-pub fn answer(line: &[u8], out: &mut [u8]) -> usize {
+pub fn answer(line: &[u8], out: &mut [u8]) -> usize
+    ensures { λ r. ⌜ Written 0 r (now (out .entry)) (now (out .exit)) ⌝ }
+{
     let name = lines::word(line, 0);
     if lines::among(name, b"verdict resolve get schema_name item_name as_path") {
         return of_sheet(line, out);
@@ -57,7 +60,9 @@ pub fn answer(line: &[u8], out: &mut [u8]) -> usize {
     unknown(out)
 }
 
-fn eval(line: &[u8], out: &mut [u8]) -> usize {
+fn eval(line: &[u8], out: &mut [u8]) -> usize
+    ensures { λ r. ⌜ Written 0 r (now (out .entry)) (now (out .exit)) ⌝ }
+{
     let mut bytes = [0u8; FIELDS];
     let mut numbers = [0u16; NODES];
     let Number::Is(count) = lines::bytes(lines::word(line, 1), &mut bytes) else {
@@ -72,6 +77,7 @@ fn eval(line: &[u8], out: &mut [u8]) -> usize {
 // An expression as it was read.
 fn of_nodes(line: &[u8], out: &mut [u8], nodes: &[u16]) -> usize
     requires { ⌜ Node (now nodes) 12 ⌝ }
+    ensures { λ r. ⌜ Written 0 r (now (out .entry)) (now (out .exit)) ⌝ }
 {
     let mut buffer = [0u16; BUFFER];
     let Number::Is(size) = lines::lend(lines::word(line, 2), &mut buffer) else {
@@ -81,7 +87,9 @@ fn of_nodes(line: &[u8], out: &mut [u8], nodes: &[u16]) -> usize
     listed(out, told, &buffer)
 }
 
-fn new(line: &[u8], out: &mut [u8]) -> usize {
+fn new(line: &[u8], out: &mut [u8]) -> usize
+    ensures { λ r. ⌜ Written 0 r (now (out .entry)) (now (out .exit)) ⌝ }
+{
     let mut indices = [0u16; WORD];
     let mut buffer = [0u16; BUFFER];
     let Number::Is(count) = lines::numbers(lines::word(line, 1), &mut indices) else {
@@ -94,7 +102,9 @@ fn new(line: &[u8], out: &mut [u8]) -> usize {
     listed(out, told, &buffer)
 }
 
-fn single(line: &[u8], out: &mut [u8]) -> usize {
+fn single(line: &[u8], out: &mut [u8]) -> usize
+    ensures { λ r. ⌜ Written 0 r (now (out .entry)) (now (out .exit)) ⌝ }
+{
     let mut buffer = [0u16; BUFFER];
     let Number::Is(index) = lines::decimal_to(lines::word(line, 1), 65535) else {
         return unknown(out);
@@ -107,7 +117,9 @@ fn single(line: &[u8], out: &mut [u8]) -> usize {
 }
 
 // A question on two words of numbers: parts, lists, or counts and rows.
-fn of_two(line: &[u8], out: &mut [u8]) -> usize {
+fn of_two(line: &[u8], out: &mut [u8]) -> usize
+    ensures { λ r. ⌜ Written 0 r (now (out .entry)) (now (out .exit)) ⌝ }
+{
     let mut first = [0u16; WORD];
     let mut second = [0u16; WORD];
     let Number::Is(left) = lines::numbers(lines::word(line, 1), &mut first) else {
@@ -120,7 +132,9 @@ fn of_two(line: &[u8], out: &mut [u8]) -> usize {
 }
 
 // Only the comparison of two parts has no buffer.
-fn of_words(line: &[u8], out: &mut [u8], first: &[u16], second: &[u16]) -> usize {
+fn of_words(line: &[u8], out: &mut [u8], first: &[u16], second: &[u16]) -> usize
+    ensures { λ r. ⌜ Written 0 r (now (out .entry)) (now (out .exit)) ⌝ }
+{
     let name = lines::word(line, 0);
     if lines::is(name, b"compare") {
         return compared(out, algebra::compare(first, second));

@@ -1,4 +1,6 @@
 // The questions on a sheet with a workspace: supertypes, their lists and the sets in these, types.
+ghost use Prim.Native.Nat.{_≤_};
+ghost use Rattle.lines.specs.Places.{Written};
 use crate::answers::BUFFER;
 use crate::answers::decided;
 use crate::answers::found;
@@ -21,7 +23,9 @@ const WORKSPACE: usize = 65535;
 // A good row has 13 numbers, the longest word that is asked for one 26.
 const ROW: usize = 1690;
 
-pub fn of_workspace(line: &[u8], out: &mut [u8], sheet: &[u8]) -> usize {
+pub fn of_workspace(line: &[u8], out: &mut [u8], sheet: &[u8]) -> usize
+    ensures { λ r. ⌜ Written 0 r (now (out .entry)) (now (out .exit)) ⌝ }
+{
     let mut workspace = [0u16; WORKSPACE];
     let word = workspace_word(lines::word(line, 0));
     let Number::Is(size) = lines::lend(lines::word(line, word), &mut workspace) else {
@@ -31,20 +35,26 @@ pub fn of_workspace(line: &[u8], out: &mut [u8], sheet: &[u8]) -> usize {
 }
 
 // The answer, then how the workspace was given back.
-fn with_workspace(line: &[u8], out: &mut [u8], sheet: &[u8], workspace: &mut [u16]) -> usize {
+fn with_workspace(line: &[u8], out: &mut [u8], sheet: &[u8], workspace: &mut [u16]) -> usize
+    ensures { λ r. ⌜ Written 0 r (now (out .entry)) (now (out .exit)) ⌝ }
+{
     let end = asked(line, out, sheet, workspace);
     lines::state(out, end, workspace)
 }
 
 // Which of the line's words is the workspace's length.
-fn workspace_word(name: &[u8]) -> usize {
+fn workspace_word(name: &[u8]) -> usize
+    ensures { λ r. ⌜ (3 ≤ r) × (r ≤ 4) ⌝ }
+{
     if lines::among(name, b"number_of set_at") {
         return 4;
     }
     3
 }
 
-fn asked(line: &[u8], out: &mut [u8], sheet: &[u8], workspace: &mut [u16]) -> usize {
+fn asked(line: &[u8], out: &mut [u8], sheet: &[u8], workspace: &mut [u16]) -> usize
+    ensures { λ r. ⌜ Written 0 r (now (out .entry)) (now (out .exit)) ⌝ }
+{
     if lines::is(lines::word(line, 0), b"supertype") {
         return supertype(line, out, sheet, workspace);
     }
@@ -55,7 +65,9 @@ fn asked(line: &[u8], out: &mut [u8], sheet: &[u8], workspace: &mut [u16]) -> us
     of_path(line, out, sheet, &query[0..count], workspace)
 }
 
-fn supertype(line: &[u8], out: &mut [u8], sheet: &[u8], workspace: &mut [u16]) -> usize {
+fn supertype(line: &[u8], out: &mut [u8], sheet: &[u8], workspace: &mut [u16]) -> usize
+    ensures { λ r. ⌜ Written 0 r (now (out .entry)) (now (out .exit)) ⌝ }
+{
     let Number::Is(place) = lines::decimal_of(lines::word(line, 2)) else {
         return unknown(out);
     };
@@ -63,13 +75,9 @@ fn supertype(line: &[u8], out: &mut [u8], sheet: &[u8], workspace: &mut [u16]) -
 }
 
 // A query as it was read.
-fn of_path(
-    line: &[u8],
-    out: &mut [u8],
-    sheet: &[u8],
-    query: &[u8],
-    workspace: &mut [u16],
-) -> usize {
+fn of_path(line: &[u8], out: &mut [u8], sheet: &[u8], query: &[u8], workspace: &mut [u16]) -> usize
+    ensures { λ r. ⌜ Written 0 r (now (out .entry)) (now (out .exit)) ⌝ }
+{
     let name = lines::word(line, 0);
     if lines::is(name, b"is_supertype") {
         return decided(out, is_supertype(sheet, query, workspace));
@@ -86,7 +94,9 @@ fn of_path(
     all_rows(line, out, sheet, query, workspace)
 }
 
-fn of_row(line: &[u8], out: &mut [u8], sheet: &[u8], query: &[u8], workspace: &mut [u16]) -> usize {
+fn of_row(line: &[u8], out: &mut [u8], sheet: &[u8], query: &[u8], workspace: &mut [u16]) -> usize
+    ensures { λ r. ⌜ Written 0 r (now (out .entry)) (now (out .exit)) ⌝ }
+{
     let mut row = [0u16; ROW];
     let Number::Is(count) = lines::numbers(lines::word(line, 3), &mut row) else {
         return unknown(out);
@@ -100,7 +110,9 @@ fn of_number(
     sheet: &[u8],
     query: &[u8],
     workspace: &mut [u16],
-) -> usize {
+) -> usize
+    ensures { λ r. ⌜ Written 0 r (now (out .entry)) (now (out .exit)) ⌝ }
+{
     let mut buffer = [0u16; BUFFER];
     let Number::Is(number) = lines::decimal_of(lines::word(line, 3)) else {
         return unknown(out);
@@ -112,13 +124,9 @@ fn of_number(
     listed(out, told, &buffer)
 }
 
-fn all_rows(
-    line: &[u8],
-    out: &mut [u8],
-    sheet: &[u8],
-    query: &[u8],
-    workspace: &mut [u16],
-) -> usize {
+fn all_rows(line: &[u8], out: &mut [u8], sheet: &[u8], query: &[u8], workspace: &mut [u16]) -> usize
+    ensures { λ r. ⌜ Written 0 r (now (out .entry)) (now (out .exit)) ⌝ }
+{
     let mut buffer = [0u16; BUFFER];
     let Number::Is(size) = lines::lend(lines::word(line, 4), &mut buffer) else {
         return unknown(out);

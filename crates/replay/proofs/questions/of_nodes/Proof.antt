@@ -1,6 +1,6 @@
--- The lent numbers are within the buffer, which is no longer than a list.
+-- The lent numbers are within the buffer.
 use borrow.Author.Needs.{needs}
-use Rattle.replay.proofs.Parts.{parts, lent-short}
+use Rattle.replay.proofs.Parts.{parts}
 use Rattle.replay.proofs.questions.of_nodes.Statement.{statement}
 use Rattle.replay.proofs.questions.of_nodes.Tie as tie
 
@@ -38,7 +38,7 @@ part-buffer-end : tie.Need-part-buffer-end
 part-buffer-end c = search (parts, needs)
 
 value-requires : tie.Need-value-requires
-value-requires c κs = (c .before .before .before .before .before .before .before .before .before .before .before .pre, lent-short _ _ (c .before .before .before .before .before .lend .last .1 .0) (c .before .before .size .given .1) (c .before .before .before .before .before .lend .ensures) (search needs))
+value-requires c κs = search needs
 
 listed-requires : tie.Need-listed-requires
 listed-requires c κs = search needs
