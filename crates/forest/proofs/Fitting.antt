@@ -117,8 +117,8 @@ module _ (rd : Reading) (s : List ℕ) (p st at e d : ℕ) (c : Counts) where
   -- what a step tells
   abbrev Tells : Step → Type 0
   Tells (Done c1) = (at ≡ e) × (c ≡ c1) × (ltb (rowOf p st 256) rowCount ≡ true)
-  Tells (Past b st' c1) = (t : ℕ) × (a : ℕ) × Stands t a b c1 × (eqb (cellAt (rowOf p st t) 7) 0 ≡ false) × (cellAt (rowOf p st t) 4 ≡ st')
-  Tells (Into t a b st' d' c1) = Stands t a b c1 × (eqb (cellAt (rowOf p st t) 7) 0 ≡ true) × (cellAt (rowOf p st t) 4 ≡ st') × (d - cellAt (rowOf p st t) 9 ≡ d')
+  Tells (Past c1 st' b) = (t : ℕ) × (a : ℕ) × Stands t a b c1 × (eqb (cellAt (rowOf p st t) 7) 0 ≡ false) × (cellAt (rowOf p st t) 4 ≡ st')
+  Tells (Into c1 st' t d' a b) = Stands t a b c1 × (eqb (cellAt (rowOf p st t) 7) 0 ≡ true) × (cellAt (rowOf p st t) 4 ≡ st') × (d - cellAt (rowOf p st t) 9 ≡ d')
   Tells (Stop r) = Unit {0}
 
   tells-count : (t a b : ℕ) → fieldAt s at e ≡ Field t a b → fieldFault rd (part s a b) (rowOf p st t) d ≡ 0 → (k : Counted) → countUp (cellAt (rowOf p st t) 8) c ≡ k → Tells (onCount at d t a b (rowOf p st t) k)
@@ -174,14 +174,14 @@ module _ (rd : Reading) (s : List ℕ) (bs : AllBytes s) where
         let z : e - at ≡ 0 = omega arith in
         let y : c1 ≡ c' = cc in
         (nil, rw z, fits-nil rd p st d c (x .2) ∙ ap Within (x .1 ∙ y))
-    stepped (Past b st' c1) x q =
+    stepped (Past c1 st' b) x q =
         let F = field-part s bs at e (x .0) (x .1) b h (x .2 .there) in
         let f = below p st' b e d c1 c' h q in (
           leaf (x .0) (part s (x .1) b) (f .0),
           ap₂ _++_ (F .0) (f .1) ∙ sym (part-split s at b e (F .1) (F .2)),
           fits-leaf rd p st d (x .0) c c' (part s (x .1) b) (f .0) (record { fault = x .2 .fault; plain = x .3; with-it = c1; count = x .2 .count; rest = rw (x .4) (f .2) }),
         )
-    stepped (Into t a b st' d' c1) x q = entered t a b st' d' c1 (x .0) (x .1) (x .2) (x .3) (walk n rd s t 0 a b d' c1) refl q
+    stepped (Into c1 st' t d' a b) x q = entered t a b st' d' c1 (x .0) (x .1) (x .2) (x .3) (walk n rd s t 0 a b d' c1) refl q
 
   sound : (n : ℕ) → Below n
   unfolding walk
@@ -192,11 +192,11 @@ module _ (rd : Reading) (s : List ℕ) (bs : AllBytes s) where
 
 module _ (rd : Reading) (s : List ℕ) (p st at e d t a b : ℕ) (c c1 : Counts) (lt : at < e) (there : fieldAt s at e ≡ Field t a b)
     (fault : fieldFault rd (part s a b) (rowOf p st t) d ≡ 0) (count : countUp (cellAt (rowOf p st t) 8) c ≡ Within c1) where
-  past : eqb (cellAt (rowOf p st t) 7) 0 ≡ false → stepAt rd s p st at e d c ≡ Past b (cellAt (rowOf p st t) 4) c1
+  past : eqb (cellAt (rowOf p st t) 7) 0 ≡ false → stepAt rd s p st at e d c ≡ Past c1 (cellAt (rowOf p st t) 4) b
   unfolding stepAt onHeader onFault onCount goOn
   past k = let z : eqb at e ≡ false = ne-eqb at e (λ q. omega arith) in simp (z, there, eq-eqb _ 0 fault, count, k)
 
-  into : eqb (cellAt (rowOf p st t) 7) 0 ≡ true → stepAt rd s p st at e d c ≡ Into t a b (cellAt (rowOf p st t) 4) (d - cellAt (rowOf p st t) 9) c1
+  into : eqb (cellAt (rowOf p st t) 7) 0 ≡ true → stepAt rd s p st at e d c ≡ Into c1 (cellAt (rowOf p st t) 4) t (d - cellAt (rowOf p st t) 9) a b
   unfolding stepAt onHeader onFault onCount goOn
   into k = let z : eqb at e ≡ false = ne-eqb at e (λ q. omega arith) in simp (z, there, eq-eqb _ 0 fault, count, k)
 

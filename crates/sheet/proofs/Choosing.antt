@@ -1,6 +1,6 @@
 -- Choices by a test, and what two flags say together.
 use mathlib.Core.Path.{_≡_, refl}
-use mathlib.Core.Bool.{Bool, true, false, cond, _&&_}
+use mathlib.Core.Bool.{Bool, true, false, cond, _&&_, _||_}
 use Prim.Native.Nat.{ℕ}
 use native.Mathlib.Omega.{arith}
 
@@ -22,3 +22,7 @@ both false b q = clash (cc)
 pub and-false : (a : Bool) → a && false ≡ false
 and-false true = refl
 and-false false = refl
+
+pub or-false : (a : Bool) → a || false ≡ a
+or-false true = refl
+or-false false = refl

@@ -250,11 +250,11 @@ module _ (p st e : ℕ) (c : Counts) (r : ℕ) (q : r ≡ rowOf p st 256) where
   end-missing k x u = simp (← q, le-ltb r rowCount k, u)
 
 module _ (r t a b d : ℕ) (c : Counts) (st' kind : ℕ) (m : st' ≡ cellAt r 4) (j : kind ≡ cellAt r 7) where
-  pub on-past : (kind ≡ 0 → ⊥) → Past b st' c ≡ goOn t a b r d c
+  pub on-past : (kind ≡ 0 → ⊥) → Past c st' b ≡ goOn t a b r d c
   unfolding goOn
   on-past u = simp (← m, ← j, ne-eqb kind 0 u)
 
-  pub on-into : kind ≡ 0 → (x : ℕ) → x ≡ cellAt r 9 → Into t a b st' (d - x) c ≡ goOn t a b r d c
+  pub on-into : kind ≡ 0 → (x : ℕ) → x ≡ cellAt r 9 → Into c st' t (d - x) a b ≡ goOn t a b r d c
   unfolding goOn
   on-into u x v = simp (← m, ← j, eq-eqb kind 0 u, ← v)
 

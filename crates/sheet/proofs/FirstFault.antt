@@ -78,13 +78,13 @@ module _ (rd : Reading) (s : List ℕ) (bytes : AllBytes s) (small : length s �
     by-step : (st : ℕ) (K : Counts → Checked) → Waits os e K → e ≤ length s → (x : Step) → Judged rd s p e es os at fs x → sheetCheck rd s ≡ andThen (after (walkAt rd s) p e (most-depth - D) x) K → Next p e es os at fs
     unfolding after andThen deep
     by-step st K w l (Done c1) j v = ended (j .0) (j .2) (record { rest = K; waits = w; so = v ∙ ap K (j .1) })
-    by-step st K w l (Past b st1 c1) j v =
+    by-step st K w l (Past c1 st1 b) j v =
         passed (j .0 .before) (j .0 .whole) l (j .1) (j .0 .right) (record {
           rest = λ c. andThen (walkAt rd s p st1 (endOf s at) e (most-depth - D) c) K;
           waits = (st1, j .0 .fit, j .0 .whole, l, K, w, λ c. refl);
           so = v ∙ ap (λ (x : ℕ). andThen (walkAt rd s p st1 x e (most-depth - D) c1) K) (j .0 .ends) ∙ ap (λ (c : Counts). andThen (walkAt rd s p st1 (endOf s at) e (most-depth - D) c) K) (j .0 .count);
         })
-    by-step st K w l (Into u a b st1 d1 c1) j v =
+    by-step st K w l (Into c1 st1 u d1 a b) j v =
         let K1 : Counts → Checked = λ c. andThen (walkAt rd s p st1 (endOf s at) e (most-depth - D) c) K in
         entered (j .0 .before) (j .0 .whole) l (j .1) (j .0 .right) (record {
           rest = λ c. andThen (walkAt rd s (tagOf s at) 0 (at + 3) (endOf s at) inner c) K1;

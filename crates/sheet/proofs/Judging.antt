@@ -185,8 +185,8 @@ module _ (rd : Reading) (s : List ℕ) (p e : ℕ) (es : List ℕ) (os : List Op
 
   abbrev pub Judged : Step → Type 0
   Judged (Done c1) = (at ≡ e) × (c1 ≡ countsOf fs) × ((n : ℕ) → W n → ⊥)
-  Judged (Past b st1 c1) = Over-it b st1 c1 × (kindOf t ≡ fields → ⊥)
-  Judged (Into u a b st1 d1 c1) = Over-it b st1 c1 × (kindOf t ≡ fields) × (u ≡ t) × (a ≡ at + 3) × Fit t [] 0 × (d1 ≡ most-depth - cond (oneOf expressions t) (D + 1) D)
+  Judged (Past c1 st1 b) = Over-it b st1 c1 × (kindOf t ≡ fields → ⊥)
+  Judged (Into c1 st1 u d1 a b) = Over-it b st1 c1 × (kindOf t ≡ fields) × (u ≡ t) × (a ≡ at + 3) × Fit t [] 0 × (d1 ≡ most-depth - cond (oneOf expressions t) (D + 1) D)
   Judged (Stop r) = (r .place ≡ at) × W (r .number) × ((m : ℕ) → W m → r .number ≤ m)
 
   module _ (st : ℕ) (F : Fit p es st) (byte : t < 256) (small : length s ≤ most-bytes) (end : e ≤ length s) where

@@ -28,8 +28,8 @@ use Rattle.sheet.proofs.Deciding.{Inside, inside}
 
 abbrev Moves : ℕ → ℕ → Step → Type 0
 Moves at e (Done c) = Unit {0}
-Moves at e (Past b st c) = (at < b) × (b ≤ e)
-Moves at e (Into t a b st d c) = (at < a) × (a ≤ b) × (b ≤ e)
+Moves at e (Past c st b) = (at < b) × (b ≤ e)
+Moves at e (Into c st t d a b) = (at < a) × (a ≤ b) × (b ≤ e)
 Moves at e (Stop r) = Unit {0}
 
 module _ (rd : Reading) (s : List ℕ) (p st at e d : ℕ) (c : Counts) where
@@ -61,8 +61,8 @@ Go = ℕ → ℕ → ℕ → ℕ → ℕ → Counts → Checked
 same-after : (f g : Go) (at e : ℕ) → ((p st a b d : ℕ) (c : Counts) → at < a → a ≤ b → b ≤ e → f p st a b d c ≡ g p st a b d c) → (p d : ℕ) (x : Step) → Moves at e x → after f p e d x ≡ after g p e d x
 unfolding after
 same-after f g at e h p d (Done c) m = refl
-same-after f g at e h p d (Past b st c) m = h p st b e d c (m .0) (m .1) (le-refl e)
-same-after f g at e h p d (Into t a b st d' c) m = ap₂ andThen (h t 0 a b d' c (m .0) (m .1) (m .2)) (fun-ext λ c'. h p st b e d c' (omega arith) (m .2) (le-refl e))
+same-after f g at e h p d (Past c st b) m = h p st b e d c (m .0) (m .1) (le-refl e)
+same-after f g at e h p d (Into c st t d' a b) m = ap₂ andThen (h t 0 a b d' c (m .0) (m .1) (m .2)) (fun-ext λ c'. h p st b e d c' (omega arith) (m .2) (le-refl e))
 same-after f g at e h p d (Stop r) m = refl
 
 enough : (rd : Reading) (s : List ℕ) (n m p st at e d : ℕ) (c : Counts) → e - at < n → e - at < m → walk n rd s p st at e d c ≡ walk m rd s p st at e d c
@@ -106,7 +106,7 @@ module _ (rd : Reading) (s : List ℕ) (p at e d from st : ℕ) (c : Counts) (r 
   unfolding after
   walk-stop y h = let z = stepped in rw h at z
 
-  module _ (b st' : ℕ) (k : Counts) (h : x ≡ Past b st' k) where
+  module _ (b st' : ℕ) (k : Counts) (h : x ≡ Past k st' b) where
     passes-on : (from < b) × (b ≤ e)
     passes-on = let m = moved in rw h at m
 
@@ -120,7 +120,7 @@ module _ (rd : Reading) (s : List ℕ) (p at e d from st : ℕ) (c : Counts) (r 
         let z = stepped in
         record { begun = omega (arith, f .begun); inside-it = m .1; fitting = f .fitting; rest = rw h at z }
 
-  module _ (t a b st' d' : ℕ) (k : Counts) (h : x ≡ Into t a b st' d' k) where
+  module _ (t a b st' d' : ℕ) (k : Counts) (h : x ≡ Into k st' t d' a b) where
     goes-in : (from < a) × (a ≤ b) × (b ≤ e)
     goes-in = let m = moved in rw h at m
 

@@ -17,7 +17,7 @@ use Rattle.sheet.specs.MeaningSheet.Fault.{wrong}
 use Rattle.sheet.specs.MeaningSheet.Wrong.{missing}
 use Rattle.sheet.specs.Claims.{AllBytes}
 use Rattle.sheet.specs.MirrorRows.{rows}
-use Rattle.sheet.specs.MirrorTable.{cellAt, serves, first, rowOf, answerAt}
+use Rattle.sheet.specs.MirrorTable.{cellAt, belongs, serves, first, rowOf, answerAt}
 use Rattle.sheet.specs.MirrorField.{fieldAt}
 use Rattle.sheet.specs.MirrorCheck.{kindFault, lengthFault, valueFault, depthFault, orNext, fieldFault, nextCount, thenTally, countUp, stopAt, atEnd, goOn, onCount, onFault, onHeader, stepAt, andThen, after, walk, walkAt, noCounts, sheetCheck}
 use Rattle.sheet.specs.declared.Checked.{Checked}
@@ -105,7 +105,7 @@ samples =
     ∷ []
 
 computed : map (λ (x : Sample). answerOf (sheetCheck rust (x .bytes))) samples ≡ map (λ (x : Sample). x .say) samples
-unfolding rows cellAt serves first rowOf answerAt isLetter isNameByte allNameBytes startsWithLetter isName fieldAt kindFault lengthFault valueFault depthFault orNext fieldFault nextCount thenTally countUp stopAt atEnd goOn onCount onFault onHeader stepAt andThen after walk walkAt noCounts sheetCheck
+unfolding rows cellAt belongs serves first rowOf answerAt isLetter isNameByte allNameBytes startsWithLetter isName fieldAt kindFault lengthFault valueFault depthFault orNext fieldFault nextCount thenTally countUp stopAt atEnd goOn onCount onFault onHeader stepAt andThen after walk walkAt noCounts sheetCheck
 computed = refl
 
 abbrev pub All : List Sample → Type 0

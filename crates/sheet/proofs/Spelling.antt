@@ -10,43 +10,46 @@ use lib.Dec.{leb}
 use lib.ListN.{length, getD, drop, drop-of-length-le}
 use lib.Seq.{drop-cons}
 use Rattle.sheet.specs.MeaningName.{most-name-bytes, isLetter, isNameByte, allNameBytes, startsWithLetter, isName}
-use Rattle.sheet.proofs.Choosing.{and-false}
+use Rattle.sheet.proofs.Choosing.{and-false, or-false}
 
 module _ (b : ℕ) where
-  pub letter-below : b < 65 → false ≡ isLetter b
+  pub letter-small : 97 ≤ b → leb b 122 ≡ isLetter b
   unfolding isLetter
-  letter-below h = simp (lt-leb 65 b h, lt-leb 97 b (omega arith))
+  letter-small h = simp (le-leb 65 b (omega arith), lt-leb b 90 (omega arith), le-leb 97 b h)
 
-  pub letter-upper : 65 ≤ b → b ≤ 90 → true ≡ isLetter b
-  unfolding isLetter
-  letter-upper h k = simp (le-leb 65 b h, le-leb b 90 k)
+  module _ (h : b < 97) where
+    pub letter-capital : 65 ≤ b → leb b 90 ≡ isLetter b
+    unfolding isLetter
+    letter-capital k = simp (le-leb 65 b k, lt-leb 97 b h, or-false (leb b 90))
 
-  pub letter-between : 65 ≤ b → 90 < b → b < 97 → false ≡ isLetter b
-  unfolding isLetter
-  letter-between h k l = simp (le-leb 65 b h, lt-leb b 90 k, lt-leb 97 b l)
+    pub letter-none : b < 65 → false ≡ isLetter b
+    unfolding isLetter
+    letter-none k = simp (lt-leb 65 b k, lt-leb 97 b h)
 
-  pub letter-lower : 65 ≤ b → 90 < b → 97 ≤ b → leb b 122 ≡ isLetter b
-  unfolding isLetter
-  letter-lower h k l = simp (le-leb 65 b h, lt-leb b 90 k, le-leb 97 b l)
+  pub byte-small : 97 ≤ b → leb b 122 ≡ isNameByte b
+  unfolding isNameByte
+  byte-small h = simp (← letter-small h, ne-eqb b 95 (λ e. omega arith), le-leb 48 b (omega arith), lt-leb b 57 (omega arith), or-false (leb b 122))
 
-  module _ (l : Bool) (q : l ≡ isLetter b) where
-    pub byte-letter : l ≡ true → true ≡ isNameByte b
-    unfolding isNameByte
-    byte-letter h = simp (sym q ∙ h)
+  module _ (h : b < 97) where
+    pub byte-underscore : b ≡ 95 → true ≡ isNameByte b
+    unfolding isNameByte isLetter
+    byte-underscore k = rw k refl
 
-    pub byte-underscore : l ≡ false → b ≡ 95 → true ≡ isNameByte b
-    unfolding isNameByte
-    byte-underscore h k = simp (sym q ∙ h, eq-eqb b 95 k)
+    module _ (k : b ≡ 95 → ⊥) where
+      pub byte-capital : 65 ≤ b → leb b 90 ≡ isNameByte b
+      unfolding isNameByte
+      byte-capital l = simp (← letter-capital h l, ne-eqb b 95 k, le-leb 48 b (omega arith), lt-leb b 57 (omega arith), or-false (leb b 90))
 
-    pub byte-below : l ≡ false → (b ≡ 95 → ⊥) → b < 48 → false ≡ isNameByte b
-    unfolding isNameByte
-    byte-below h k m = simp (sym q ∙ h, ne-eqb b 95 k, lt-leb 48 b m)
+      module _ (l : b < 65) where
+        pub byte-digit : 48 ≤ b → leb b 57 ≡ isNameByte b
+        unfolding isNameByte
+        byte-digit m = simp (← letter-none h l, ne-eqb b 95 k, le-leb 48 b m)
 
-    pub byte-digit : l ≡ false → (b ≡ 95 → ⊥) → 48 ≤ b → leb b 57 ≡ isNameByte b
-    unfolding isNameByte
-    byte-digit h k m = simp (sym q ∙ h, ne-eqb b 95 k, le-leb 48 b m)
+        pub byte-none : b < 48 → false ≡ isNameByte b
+        unfolding isNameByte
+        byte-none m = simp (← letter-none h l, ne-eqb b 95 k, lt-leb 48 b m)
 
-pub ruleset lettering = (letter-below, letter-upper, letter-between, letter-lower, byte-letter, byte-underscore, byte-below, byte-digit)
+pub ruleset lettering = (letter-small, letter-capital, letter-none, byte-small, byte-underscore, byte-capital, byte-digit, byte-none)
 
 starts-empty : (v : List ℕ) → length v ≡ 0 → startsWithLetter v ≡ false
 unfolding startsWithLetter

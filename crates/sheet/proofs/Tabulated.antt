@@ -14,7 +14,7 @@ use Rattle.sheet.specs.MeaningGrammar.{Slot, grammar, expressions, slot,
 use Rattle.sheet.specs.MeaningGrammar.Kind.{fields}
 use Rattle.sheet.specs.MeaningGrammar.Limit.{schemas, declarations, constraints, terms}
 use Rattle.sheet.specs.MirrorRows.{rows, leafKind, levelsOf}
-use Rattle.sheet.specs.MirrorTable.{rowCount, cellAt, rowOf, serves, first, answerAt}
+use Rattle.sheet.specs.MirrorTable.{rowCount, cellAt, rowOf, belongs, serves, first, answerAt}
 use Rattle.sheet.proofs.Choosing.{clash}
 use Rattle.sheet.proofs.Serving.{Row, key, at-row}
 use Rattle.sheet.proofs.Sequences.{may, afterTag, lacks, among, EachOf, each-of, tagsOf, Nice, nice-drop, may-tags, fill-first, first-fill, fill-end, end-fill, some-fill}
@@ -102,14 +102,14 @@ abbrev back-has : ℕ → ℕ → ℕ → Bool
 back-has p st t = cond (may (drop st (slotsOf p)) t) (ltb (rowOf p st t) rowCount) true
 
 back-test : map (λ (p : ℕ). map (λ (st : ℕ). map (back-has p st) (tagsOf (drop st (slotsOf p)))) states) parents ≡ map (λ (p : ℕ). map (λ (st : ℕ). map (λ (t : ℕ). true) (tagsOf (drop st (slotsOf p)))) states) parents
-unfolding rows rowOf first serves slotsIn grammar slot line expressions oneOf needed may
+unfolding rows rowOf first serves belongs slotsIn grammar slot line expressions oneOf needed may
 back-test = refl
 
 abbrev back-end-has : ℕ → ℕ → Bool
 back-end-has p st = cond (leb st (length (slotsOf p)) && not (lacks (drop st (slotsOf p)))) (ltb (rowOf p st 256) rowCount) true
 
 back-end-test : map (λ (p : ℕ). map (back-end-has p) states) parents ≡ map (λ (p : ℕ). map (λ (st : ℕ). true) states) parents
-unfolding rows rowOf first serves slotsIn grammar slot line expressions needed lacks
+unfolding rows rowOf first serves belongs slotsIn grammar slot line expressions needed lacks
 back-end-test = refl
 
 all-nice : EachOf (λ (p : ℕ). Nice (slotsOf p)) parents

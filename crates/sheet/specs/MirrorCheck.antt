@@ -75,7 +75,7 @@ atEnd p st e c = cond (ltb (rowOf p st 256) rowCount) (Done c) (stopAt 3 e)
 
 -- after a field without a fault
 unfoldable pub goOn : ℕ → ℕ → ℕ → ℕ → ℕ → Counts → Step
-goOn t a b r d c = cond (eqb (cellAt r 7) 0) (Into t a b (cellAt r 4) (d - cellAt r 9) c) (Past b (cellAt r 4) c)
+goOn t a b r d c = cond (eqb (cellAt r 7) 0) (Into c (cellAt r 4) t (d - cellAt r 9) a b) (Past c (cellAt r 4) b)
 
 unfoldable pub onCount : ℕ → ℕ → ℕ → ℕ → ℕ → ℕ → Counted → Step
 unfolding stopAt
@@ -103,8 +103,8 @@ andThen (Refused r) k = Refused r
 -- what is left after one step, where go is the check of a value from a place on: parent, state, place, end, depth, counts
 unfoldable pub after : (ℕ → ℕ → ℕ → ℕ → ℕ → Counts → Checked) → ℕ → ℕ → ℕ → Step → Checked
 after go p e d (Done c) = Accepted c
-after go p e d (Past b st c) = go p st b e d c
-after go p e d (Into t a b st d' c) = andThen (go t 0 a b d' c) (λ c'. go p st b e d c')
+after go p e d (Past c st b) = go p st b e d c
+after go p e d (Into c st t d' a b) = andThen (go t 0 a b d' c) (λ c'. go p st b e d c')
 after go p e d (Stop r) = Refused r
 
 -- n steps at most, which `walkAt` gives in plenty

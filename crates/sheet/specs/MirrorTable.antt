@@ -20,17 +20,24 @@ columnCount = 11
 unfoldable pub cellAt : ℕ → ℕ → ℕ
 cellAt i j = getD (getD rows i []) j 0
 
--- the row is for this parent and tag, and the state is within its bounds
-unfoldable pub serves : ℕ → ℕ → ℕ → List ℕ → Bool
-serves p st t row = eqb (getD row 0 0) p && (eqb (getD row 1 0) t && (leb (getD row 2 0) st && leb st (getD row 3 0)))
+-- the row is for this parent
+unfoldable pub belongs : ℕ → List ℕ → Bool
+belongs p row = eqb (getD row 0 0) p
 
--- the first row that serves, counted from i, or the count past the last
-unfoldable pub first : ℕ → ℕ → ℕ → List (List ℕ) → ℕ → ℕ
-first p st t [] i = i
-first p st t (x ∷ xs) i = cond (serves p st t x) i (first p st t xs (suc i))
+-- and for this tag, and the state is within its bounds
+unfoldable pub serves : ℕ → ℕ → ℕ → List ℕ → Bool
+serves p st t row = belongs p row && (eqb (getD row 1 0) t && (leb (getD row 2 0) st && leb st (getD row 3 0)))
+
+-- the first row that passes a test, counted from i, or the count past the last
+unfoldable pub first : (List ℕ → Bool) → List (List ℕ) → ℕ → ℕ
+first test [] i = i
+first test (x ∷ xs) i = cond (test x) i (first test xs (suc i))
+
+unfoldable pub firstRow : ℕ → ℕ
+firstRow p = first (belongs p) rows 0
 
 unfoldable pub rowOf : ℕ → ℕ → ℕ → ℕ
-rowOf p st t = first p st t rows 0
+rowOf p st t = first (serves p st t) rows 0
 
 -- what a row answers under a reading
 unfoldable pub answerAt : Reading → ℕ → ℕ

@@ -8,7 +8,7 @@ ghost use Rattle.sheet.specs.MeaningReading.Reading.{rust};
 ghost use Rattle.sheet.specs.Told.{toldReading};
 ghost use Rattle.sheet.specs.Promises.{Promise-verdict};
 ghost use Rattle.sheet.specs.MirrorRows.{rows};
-ghost use Rattle.sheet.specs.MirrorTable.{rowCount, columnCount, cellAt, serves, rowOf, answerAt};
+ghost use Rattle.sheet.specs.MirrorTable.{rowCount, columnCount, cellAt, belongs, serves, firstRow, rowOf, answerAt};
 ghost use Rattle.sheet.specs.MirrorField.{fieldAt};
 ghost use Rattle.sheet.specs.MirrorCheck.{kindFault, lengthFault, valueFault, fieldFault, nextCount, countUp, atEnd, goOn, stepAt, walkAt, sheetCheck};
 use refusal::Refusal;
@@ -60,18 +60,18 @@ pub enum Counted {
     Over,
 }
 
-// One step in a value. `next` is the value's state after a field.
+// One step in a value. `next` is the value's state after a field. Small parts come first, so that all cases lie alike and a step stays in registers.
 pub enum Step {
     // The value ends.
     Done(Counts),
     // A field is passed.
     Past {
-        stop: usize,
-        next: u16,
         counts: Counts,
+        next: u16,
+        stop: usize,
     },
-    // A field that holds fields is entered: its tag, where its value starts and stops, `next`, the depth left inside it, the counts.
-    Into(u16, usize, usize, u16, u16, Counts),
+    // A field that holds fields is entered: the counts, `next`, its tag, the depth left inside it, where its value starts and stops.
+    Into(Counts, u16, u16, u16, usize, usize),
     Stop(Refusal),
 }
 
@@ -132,8 +132,10 @@ const SIMPLE: u16 = 2;
 
 const ROW_COUNT: usize = 52;
 
+type Table = [[u16; COLUMNS]; ROW_COUNT];
+
 // Every tag with its permitted parents and lengths.
-const ROWS: [[u16; COLUMNS]; ROW_COUNT] = [
+const ROWS: Table = [
     [0x00, 0x01, 0, 0, 0, 0, MOST_BYTES, 0, 1, 0, 0],
     [0x00, END, 0, 1, 0, 0, 0, 3, 0, 0, 0],
     [0x01, 0x10, 0, 0, 1, 1, NAME_BYTES, 1, 0, 0, 0],
@@ -215,7 +217,9 @@ fn check_sheet(reading: Reading, sheet: &[u8]) -> Checked
             constraints: 0,
             terms: 0,
         };
-        return check_fields(reading, sheet, 0, 0, sheet.len(), MOST_DEPTH, none);
+        // A constant is made anew wherever it is named, so the table is made once and lent.
+        let table = ROWS;
+        return check_fields(reading, &table, sheet, 0, 0, sheet.len(), MOST_DEPTH, none);
     }
     Checked::Refused(Refusal::of(1))
 }
@@ -223,6 +227,7 @@ fn check_sheet(reading: Reading, sheet: &[u8]) -> Checked
 // The fields of one value, each with what stands inside it.
 fn check_fields(
     reading: Reading,
+    table: &Table,
     s: &[u8],
     parent: u16,
     at: usize,
@@ -230,22 +235,23 @@ fn check_fields(
     depth: u16,
     counts: Counts,
 ) -> Checked
-    requires { ⌜ (at ≤ end) × (end ≤ length (now s)) ⌝ }
+    requires { ⌜ (now table ≡ rows) × (at ≤ end) × (end ≤ length (now s)) ⌝ }
     ensures { λ r. ⌜ r ≡ walkAt (toldReading reading) (now (s .entry)) parent 0 at end depth counts ⌝ }
 {
+    let first = first_row(table, parent);
     let mut state: u16 = 0;
     let mut from = at;
     let mut c = counts;
     loop {
-        match step_at(reading, s, parent, state, from, end, depth, c) {
+        match step_at(reading, table, s, parent, first, state, from, end, depth, c) {
             Step::Done(counts) => return Checked::Accepted(counts),
-            Step::Past { stop, next, counts } => {
+            Step::Past { counts, next, stop } => {
                 from = stop;
                 state = next;
                 c = counts;
             }
-            Step::Into(tag, start, stop, next, inner, counts) => {
-                let r = check_fields(reading, s, tag, start, stop, inner, counts);
+            Step::Into(counts, next, tag, inner, start, stop) => {
+                let r = check_fields(reading, table, s, tag, start, stop, inner, counts);
                 let Checked::Accepted(after) = r else {
                     return r;
                 };
@@ -258,92 +264,111 @@ fn check_fields(
     }
 }
 
-// All that is checked at one place, in the order 3, 4, 5. `depth` is what is left of it.
+// All that is checked at one place, in the order 3, 4, 5. `first` is the parent's first row, `depth` the depth that is left.
 fn step_at(
     reading: Reading,
+    table: &Table,
     s: &[u8],
     parent: u16,
+    first: usize,
     state: u16,
     at: usize,
     end: usize,
     depth: u16,
     counts: Counts,
 ) -> Step
-    requires { ⌜ (at ≤ end) × (end ≤ length (now s)) ⌝ }
+    requires { ⌜ (now table ≡ rows) × (first ≡ firstRow parent) × (at ≤ end) × (end ≤ length (now s)) ⌝ }
     ensures { λ r. ⌜ r ≡ stepAt (toldReading reading) (now (s .entry)) parent state at end depth counts ⌝ }
 {
     if at == end {
-        return end_step(parent, state, end, counts);
+        return end_step(table, parent, first, state, end, counts);
     }
     let Header::Field { tag, start, stop } = field_at(s, at, end) else {
         return Step::Stop(Refusal::at(3, at));
     };
     let t = tag as u16;
-    let row = row_of(parent, state, t);
-    let fault = field_fault(reading, &s[start..stop], row, depth);
+    let row = row_of(table, parent, first, state, t);
+    let fault = field_fault(reading, table, &s[start..stop], row, depth);
     if fault != 0 {
         return Step::Stop(Refusal::at(fault, at));
     }
-    let Counted::Within(c) = count_up(cell(row, CLASS), counts) else {
+    let Counted::Within(c) = count_up(cell(table, row, CLASS), counts) else {
         return Step::Stop(Refusal::at(5, at));
     };
-    go_on(row, t, start, stop, depth, c)
+    go_on(table, row, t, start, stop, depth, c)
 }
 
 // The end of a value: no needed field may be missing.
-fn end_step(parent: u16, state: u16, end: usize, counts: Counts) -> Step
+fn end_step(
+    table: &Table,
+    parent: u16,
+    first: usize,
+    state: u16,
+    end: usize,
+    counts: Counts,
+) -> Step
+    requires { ⌜ (now table ≡ rows) × (first ≡ firstRow parent) ⌝ }
     ensures { λ r. ⌜ r ≡ atEnd parent state end counts ⌝ }
 {
-    if row_of(parent, state, END) < ROW_COUNT {
+    if row_of(table, parent, first, state, END) < ROW_COUNT {
         return Step::Done(counts);
     }
     Step::Stop(Refusal::at(3, end))
 }
 
 // After a field without a fault: into its value if it holds fields, otherwise past it.
-fn go_on(row: usize, tag: u16, start: usize, stop: usize, depth: u16, counts: Counts) -> Step
-    requires { ⌜ (row < rowCount) × (cellAt row 9 ≤ depth) ⌝ }
+fn go_on(
+    table: &Table,
+    row: usize,
+    tag: u16,
+    start: usize,
+    stop: usize,
+    depth: u16,
+    counts: Counts,
+) -> Step
+    requires { ⌜ (now table ≡ rows) × (row < rowCount) × (cellAt row 9 ≤ depth) ⌝ }
     ensures { λ r. ⌜ r ≡ goOn tag start stop row depth counts ⌝ }
 {
-    let next = cell(row, NEXT);
-    if cell(row, KIND) != FIELDS {
-        return Step::Past { stop, next, counts };
+    let next = cell(table, row, NEXT);
+    if cell(table, row, KIND) != FIELDS {
+        return Step::Past { counts, next, stop };
     }
-    let inner = depth - cell(row, LEVELS);
-    Step::Into(tag, start, stop, next, inner, counts)
+    let inner = depth - cell(table, row, LEVELS);
+    Step::Into(counts, next, tag, inner, start, stop)
 }
 
 // The fault of a field by itself, whatever has stood before it: 0, or the refusal's number. Where no row serves, the tag is not allowed.
-fn field_fault(reading: Reading, v: &[u8], row: usize, depth: u16) -> u8
+fn field_fault(reading: Reading, table: &Table, v: &[u8], row: usize, depth: u16) -> u8
+    requires { ⌜ now table ≡ rows ⌝ }
     ensures { λ r. ⌜ r ≡ fieldFault (toldReading reading) (now (v .entry)) row depth ⌝ }
 {
     if ROW_COUNT <= row {
         return 3;
     }
-    let answer = row_answer(reading, row);
+    let answer = row_answer(reading, table, row);
     if answer != 0 {
         return answer;
     }
-    let fault = value_fault(v, row);
+    let fault = value_fault(table, v, row);
     if fault != 0 {
         return fault;
     }
-    if depth < cell(row, LEVELS) {
+    if depth < cell(table, row, LEVELS) {
         return 5;
     }
     0
 }
 
 // The fault of a value: 0, or the refusal's number.
-fn value_fault(v: &[u8], row: usize) -> u8
-    requires { ⌜ row < rowCount ⌝ }
+fn value_fault(table: &Table, v: &[u8], row: usize) -> u8
+    requires { ⌜ (now table ≡ rows) × (row < rowCount) ⌝ }
     ensures { λ r. ⌜ r ≡ valueFault (now (v .entry)) row ⌝ }
 {
-    let kind = cell(row, KIND);
-    if v.len() < cell(row, SHORTEST) as usize {
+    let kind = cell(table, row, KIND);
+    if v.len() < cell(table, row, SHORTEST) as usize {
         return length_fault(kind);
     }
-    if (cell(row, LONGEST) as usize) < v.len() {
+    if (cell(table, row, LONGEST) as usize) < v.len() {
         return length_fault(kind);
     }
     kind_fault(v, kind)
@@ -465,43 +490,60 @@ pub fn is_name(v: &[u8]) -> bool
     true
 }
 
+// Small letters and underscores first: they are most of a name's bytes.
 fn is_name_byte(b: u8) -> bool
     ensures { λ r. ⌜ r ≡ isNameByte b ⌝ }
 {
-    if is_letter(b) {
-        return true;
+    if b'a' <= b {
+        return b <= b'z';
     }
     if b == b'_' {
         return true;
     }
-    if b < b'0' {
-        return false;
+    if b'A' <= b {
+        return b <= b'Z';
     }
-    b <= b'9'
+    if b'0' <= b {
+        return b <= b'9';
+    }
+    false
 }
 
 fn is_letter(b: u8) -> bool
     ensures { λ r. ⌜ r ≡ isLetter b ⌝ }
 {
-    if b < b'A' {
-        return false;
+    if b'a' <= b {
+        return b <= b'z';
     }
-    if b <= b'Z' {
-        return true;
+    if b'A' <= b {
+        return b <= b'Z';
     }
-    if b < b'a' {
-        return false;
-    }
-    b <= b'z'
+    false
 }
 
-// The first row for the tag in this state of its parent, or the number of rows.
-fn row_of(parent: u16, state: u16, tag: u16) -> usize
-    ensures { λ r. ⌜ r ≡ rowOf parent state tag ⌝ }
+// The first row of the parent, or the number of rows.
+fn first_row(table: &Table, parent: u16) -> usize
+    requires { ⌜ now table ≡ rows ⌝ }
+    ensures { λ r. ⌜ r ≡ firstRow parent ⌝ }
 {
     let mut i: usize = 0;
     while i < ROW_COUNT {
-        if row_serves(i, parent, state, tag) {
+        if row_belongs(table, i, parent) {
+            return i;
+        }
+        i += 1;
+    }
+    i
+}
+
+// The first row for the tag in this state of its parent, or the number of rows. Before `first` no row is the parent's.
+fn row_of(table: &Table, parent: u16, first: usize, state: u16, tag: u16) -> usize
+    requires { ⌜ (now table ≡ rows) × (first ≡ firstRow parent) ⌝ }
+    ensures { λ r. ⌜ r ≡ rowOf parent state tag ⌝ }
+{
+    let mut i = first;
+    while i < ROW_COUNT {
+        if row_serves(table, i, parent, state, tag) {
             return i;
         }
         i += 1;
@@ -510,36 +552,43 @@ fn row_of(parent: u16, state: u16, tag: u16) -> usize
 }
 
 // Is the row for this parent and tag, and the state within its bounds?
-fn row_serves(i: usize, parent: u16, state: u16, tag: u16) -> bool
-    requires { ⌜ i < rowCount ⌝ }
+fn row_serves(table: &Table, i: usize, parent: u16, state: u16, tag: u16) -> bool
+    requires { ⌜ (now table ≡ rows) × (i < rowCount) ⌝ }
     ensures { λ r. ⌜ r ≡ serves parent state tag (getD rows i []) ⌝ }
 {
-    if cell(i, PARENT) != parent {
+    if !row_belongs(table, i, parent) {
         return false;
     }
-    if cell(i, TAG) != tag {
+    if cell(table, i, TAG) != tag {
         return false;
     }
-    if state < cell(i, FIRST) {
+    if state < cell(table, i, FIRST) {
         return false;
     }
-    state <= cell(i, LAST)
+    state <= cell(table, i, LAST)
+}
+
+fn row_belongs(table: &Table, i: usize, parent: u16) -> bool
+    requires { ⌜ (now table ≡ rows) × (i < rowCount) ⌝ }
+    ensures { λ r. ⌜ r ≡ belongs parent (getD rows i []) ⌝ }
+{
+    cell(table, i, PARENT) == parent
 }
 
 // What a row answers: 0, or the number that the tag is refused with.
-fn row_answer(reading: Reading, row: usize) -> u8
-    requires { ⌜ row < rowCount ⌝ }
+fn row_answer(reading: Reading, table: &Table, row: usize) -> u8
+    requires { ⌜ (now table ≡ rows) × (row < rowCount) ⌝ }
     ensures { λ r. ⌜ r ≡ answerAt (toldReading reading) row ⌝ }
 {
     match reading {
-        Reading::Rust => cell(row, ANSWER) as u8,
+        Reading::Rust => cell(table, row, ANSWER) as u8,
     }
 }
 
 // The table is asked here and nowhere else.
-fn cell(i: usize, j: usize) -> u16
-    requires { ⌜ (i < rowCount) × (j < columnCount) ⌝ }
+fn cell(table: &Table, i: usize, j: usize) -> u16
+    requires { ⌜ (now table ≡ rows) × (i < rowCount) × (j < columnCount) ⌝ }
     ensures { λ r. ⌜ r ≡ cellAt i j ⌝ }
 {
-    ROWS[i][j]
+    table[i][j]
 }

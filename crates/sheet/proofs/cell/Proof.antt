@@ -1,10 +1,8 @@
--- `cell` answers the rows that the grammar makes: the table is they.
+-- `cell` answers the rows that the grammar makes: the lent table is they.
 use borrow.Author.Needs.{needs}
-use mathlib.Core.Path.{refl}
 use Rattle.sheet.proofs.cell.Statement.{statement}
 use Rattle.sheet.proofs.cell.Tie as tie
-use Rattle.sheet.specs.MirrorRows.{rows}
-use Rattle.sheet.specs.MirrorTable.{cellAt}
+use Rattle.sheet.proofs.Serving.{lending}
 
 mul-result : tie.Need-mul-result
 mul-result c = search needs
@@ -19,8 +17,7 @@ index-2-result : tie.Need-index-2-result
 index-2-result c = search needs
 
 returns : tie.Need-returns
-unfolding cellAt rows
-returns c = refl
+returns c = search (lending, needs)
 
 pub cell-spec : {M : Type 1} → statement M
 cell-spec = tie.close (tie.spec mul-result mul-result-2 index-1-result index-2-result returns)

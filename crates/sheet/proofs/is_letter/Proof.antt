@@ -13,8 +13,5 @@ returns-2 c = search (lettering, needs)
 returns-3 : tie.Need-returns-3
 returns-3 c = search (lettering, needs)
 
-returns-4 : tie.Need-returns-4
-returns-4 c = search (lettering, needs)
-
 pub is-letter-spec : {M : Type 1} → statement M
-is-letter-spec = tie.close (tie.spec returns returns-2 returns-3 returns-4)
+is-letter-spec = tie.close (tie.spec returns returns-2 returns-3)

@@ -4,9 +4,6 @@ use Rattle.sheet.proofs.is_name_byte.Statement.{statement}
 use Rattle.sheet.proofs.is_name_byte.Tie as tie
 use Rattle.sheet.proofs.Spelling.{lettering}
 
-is-letter-requires : tie.Need-is-letter-requires
-is-letter-requires c κs = search (lettering, needs)
-
 returns : tie.Need-returns
 returns c = search (lettering, needs)
 
@@ -19,5 +16,8 @@ returns-3 c = search (lettering, needs)
 returns-4 : tie.Need-returns-4
 returns-4 c = search (lettering, needs)
 
+returns-5 : tie.Need-returns-5
+returns-5 c = search (lettering, needs)
+
 pub is-name-byte-spec : {M : Type 1} → statement M
-is-name-byte-spec = tie.close (tie.spec is-letter-requires returns returns-2 returns-3 returns-4)
+is-name-byte-spec = tie.close (tie.spec returns returns-2 returns-3 returns-4 returns-5)

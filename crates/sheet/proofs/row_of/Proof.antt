@@ -4,13 +4,13 @@ use Prim.Native.Nat.{_-_}
 use Rattle.sheet.proofs.row_of.Statement.{statement}
 use Rattle.sheet.proofs.row_of.Tie as tie
 use Rattle.sheet.proofs.Serving.{Seeking, seeking}
-use Rattle.sheet.specs.MirrorTable.{rowCount, rowOf}
+use Rattle.sheet.specs.MirrorTable.{rowCount, serves, rowOf}
 
 abbrev Inv-loop : tie.InvT-loop
-Inv-loop parent state tag i₀ i = Seeking parent state tag i (rowOf parent state tag)
+Inv-loop table parent first state tag i₀ i = Seeking (serves parent state tag) i (rowOf parent state tag)
 
 abbrev μ-loop : tie.MeasureT-loop
-μ-loop parent state tag i₀ i = rowCount - i
+μ-loop table parent first state tag i₀ i = rowCount - i
 
 loop-holds : tie.Need-loop-holds Inv-loop μ-loop
 loop-holds c = search (seeking, needs)
