@@ -5,8 +5,8 @@ use mathlib.Core.Path.{_≡_, refl, sym, ap, _∙_}
 use mathlib.Core.List.{List, [], _∷_, _++_, append-nil}
 use native.Mathlib.Omega.{arith}
 use native.Mathlib.Nat.{sub-zero}
-use lib.ListN.{length, take, set, replicate, length-append}
-use lib.Seq.{set-at, take-at, append-snoc}
+use lib.ListN.{length, set, replicate, length-append}
+use lib.Seq.{set-at, append-snoc}
 
 pub record Filling {A : Type 0} (N : ℕ) (z : A) (k : ℕ) (out rest r : List A) : Type 0 where
   pub done : List A
@@ -34,14 +34,6 @@ module _ {A : Type 0} (N : ℕ) (z : A) where
         room = omega arith;
         whole = append-snoc (f .done) x rest′ ∙ ap (λ (l : List A). f .done ++ l) (sym e) ∙ f .whole;
       }
-
-  -- what is written, and the places after it
-  module _ (k : ℕ) (out rest r : List A) (f : Filling N z k out rest r) where
-    pub fill-front : take k out ≡ f .done
-    fill-front = rw (f .out-is) (take-at (f .done) (replicate (N - k) z) k (f .count))
-
-    pub fill-whole : take k out ++ rest ≡ r
-    fill-whole = rw fill-front (f .whole)
 
   -- nothing is to come
   pub fill-done : (k : ℕ) (out rest r : List A) → Filling N z k out rest r → rest ≡ [] → (length r ≡ k) × (out ≡ r ++ replicate (N - length r) z)

@@ -10,6 +10,7 @@ pub mod Proved
 pub mod Filling
 pub mod Names
 pub mod Containment
+pub mod Lending
 pub mod Precedence
 pub mod Answers
 pub mod Together

@@ -17,6 +17,15 @@ rest-cons l i h = rw (add-one i) (drop-cons l i 0 h)
 pub front-at : (k : ℕ) (l : List ℕ) (i : ℕ) → i < length (take k l) → getD (take k l) i 0 ≡ getD l i 0
 front-at k l i h = getD-take k l i 0 (omega (arith, length-take k l))
 
+-- the first n of a list: one is left, or none
+pub front-cons : (l : List ℕ) (n i : ℕ) → n ≤ length l → i < n → drop i (take n l) ≡ getD l i 0 ∷ drop (i + 1) (take n l)
+front-cons l n i h g =
+    let k : i < length (take n l) = rw length-take (omega arith) in
+    rw (← front-at n l i k) (rest-cons (take n l) i k)
+
+pub front-end : (l : List ℕ) (n i : ℕ) → n ≤ i → drop i (take n l) ≡ []
+front-end l n i h = drop-of-length-le (take n l) {i = i} (omega (arith, length-take n l))
+
 pub part-long : (l : List ℕ) → length l ≤ 12 → length (partOf l .names) ≡ 12
 part-long l h = simp (length-append, length-replicate) (omega arith)
 

@@ -31,6 +31,12 @@ module _ (p : Part) (few : length p ≤ 12) where
       take-take (length p) 12 ((p ++ replicate (12 - length p) 0) ++ rest) few
       ∙ rw append-assoc (take-at p (replicate (12 - length p) 0 ++ rest) (length p) refl)
 
+-- the count is read
+pub size-counted : (rows : List ℕ) (at n : ℕ) → at + 13 ≤ length rows → n ≡ min (getD rows at 0) 12 → n ≡ length (partAt (drop at rows))
+size-counted rows at n h e =
+    let c : getD (drop at rows) 0 0 ≡ getD rows at 0 = getD-drop at rows 0 0 ∙ rw add-zero in
+    rw (c, length-take, length-take, length-drop, length-drop) (omega arith)
+
 -- the part of the row that begins at a place
 unfoldable pub standing : List ℕ → ℕ → Part
 standing rows at = partAt (drop at rows)
@@ -42,12 +48,10 @@ pub record Reading (rows : List ℕ) (at n i : ℕ) (names : List ℕ) : Type 0 
   pub small : n ≤ 12
   pub fill : Filling 12 0 i names (drop i (standing rows at)) (standing rows at)
 
-pub read-start : (rows : List ℕ) (at n : ℕ) → at + 13 ≤ length rows → n ≡ min (getD rows at 0) 12 → Reading rows at n 0 (replicate 12 0)
+pub read-start : (rows : List ℕ) (at n : ℕ) → at + 13 ≤ length rows → n ≡ length (partAt (drop at rows)) → Reading rows at n 0 (replicate 12 0)
 unfolding standing
 read-start rows at n h e =
-    let c : getD (drop at rows) 0 0 ≡ getD rows at 0 = getD-drop at rows 0 0 ∙ rw add-zero in
-    let z : n ≡ length (standing rows at) = rw (c, length-take, length-take, length-drop, length-drop) (omega arith) in
-    record { inside = h; size = z; small = omega (arith, part-at-few (drop at rows)); fill = fill-start 12 0 (standing rows at) }
+    record { inside = h; size = e; small = omega (arith, part-at-few (drop at rows)); fill = fill-start 12 0 (standing rows at) }
 
 module _ (rows : List ℕ) (at n i : ℕ) (names : List ℕ) (f : Reading rows at n i names) where
   read-cons : i < n → drop i (standing rows at) ≡ getD rows (at + 1 + i) 0 ∷ drop (i + 1) (standing rows at)

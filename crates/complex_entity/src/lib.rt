@@ -4,9 +4,9 @@
 ghost use mathlib.Core.Path.{_≡_};
 ghost use mathlib.Core.List.{[], _∷_, _++_};
 ghost use Prim.Native.Nat.{_+_, _≤_, min};
-ghost use lib.ListN.{length, drop};
+ghost use lib.ListN.{length, take, drop};
 ghost use lib.Seq.{paste};
-ghost use Rattle.complex_entity.specs.MeaningParts.{order, hasName, contains, dedup, badAfter, newOf};
+ghost use Rattle.complex_entity.specs.MeaningParts.{order, lex, hasName, contains, dedup, badAfter, newOf};
 ghost use Rattle.complex_entity.specs.MeaningRows.{rowOf};
 ghost use Rattle.complex_entity.specs.Told.{toldOrder};
 ghost use Rattle.complex_entity.specs.MirrorParts.{namesOf, partOf, narrowOf, madeOf, merge, partAt, spottedOf};
@@ -132,17 +132,61 @@ impl PartialComplexEntity {
         if m < n {
             return Order::More;
         }
+        Self::first_difference(&self.names, &other.names, n)
+    }
+
+    // A part against the row at a place, which is not copied.
+    pub fn compare_at(self, rows: &[u16], at: usize) -> Order
+        requires { ⌜ at + 13 ≤ length (now rows) ⌝ }
+        ensures { λ r. ⌜ toldOrder r ≡ order (namesOf self) (partAt (drop at (now (rows .entry)))) ⌝ }
+    {
+        let n = self.size();
+        let m = Self::size_at(rows, at);
+        if n < m {
+            return Order::Less;
+        }
+        if m < n {
+            return Order::More;
+        }
+        let first = at + 1;
+        Self::first_difference(&self.names, &rows[first..], n)
+    }
+
+    // The row at a place against another.
+    pub fn compare_rows(rows: &[u16], at: usize, others: &[u16], from: usize) -> Order
+        requires { ⌜ (at + 13 ≤ length (now rows)) × (from + 13 ≤ length (now others)) ⌝ }
+        ensures { λ r. ⌜ toldOrder r ≡ order (partAt (drop at (now (rows .entry)))) (partAt (drop from (now (others .entry)))) ⌝ }
+    {
+        let n = Self::size_at(rows, at);
+        let m = Self::size_at(others, from);
+        if n < m {
+            return Order::Less;
+        }
+        if m < n {
+            return Order::More;
+        }
+        let first = at + 1;
+        let second = from + 1;
+        Self::first_difference(&rows[first..], &others[second..], n)
+    }
+
+    // The first n names of two lists compared: the first difference decides.
+    fn first_difference(names: &[u16], others: &[u16], n: usize) -> Order
+        requires { ⌜ (n ≤ length (now names)) × (n ≤ length (now others)) ⌝ }
+        ensures { λ r. ⌜ toldOrder r ≡ lex (take n (now (names .entry))) (take n (now (others .entry))) ⌝ }
+    {
         let mut i = 0;
         while i < n {
-            let x = self.names[i];
-            let y = other.names[i];
-            if x < y {
-                return Order::Less;
-            }
-            if y < x {
+            let x = names[i];
+            let y = others[i];
+            if x == y {
+                i += 1;
+            } else {
+                if x < y {
+                    return Order::Less;
+                }
                 return Order::More;
             }
-            i += 1;
         }
         Order::Same
     }
@@ -176,59 +220,65 @@ impl PartialComplexEntity {
         true
     }
 
-    // The names of both: the two are walked together until one of them is used up.
+    // The names of both.
     pub fn join(self, other: Self) -> Made
         ensures { λ r. ⌜ r ≡ narrowOf (merge (namesOf self) (namesOf other)) ⌝ }
     {
         let n = self.size();
         let m = other.size();
+        Self::joined(&self.names, n, &other.names, m)
+    }
+
+    // The same of two rows, which are not copied.
+    pub fn join_rows(rows: &[u16], at: usize, others: &[u16], from: usize) -> Made
+        requires { ⌜ (at + 13 ≤ length (now rows)) × (from + 13 ≤ length (now others)) ⌝ }
+        ensures { λ r. ⌜ r ≡ narrowOf (merge (partAt (drop at (now (rows .entry)))) (partAt (drop from (now (others .entry))))) ⌝ }
+    {
+        let n = Self::size_at(rows, at);
+        let m = Self::size_at(others, from);
+        let first = at + 1;
+        let second = from + 1;
+        Self::joined(&rows[first..], n, &others[second..], m)
+    }
+
+    // Two lists of names are walked together: each turn takes the least name that is left.
+    fn joined(left: &[u16], n: usize, right: &[u16], m: usize) -> Made
+        requires { ⌜ (n ≤ length (now left)) × (m ≤ length (now right)) ⌝ }
+        ensures { λ r. ⌜ r ≡ narrowOf (merge (take n (now (left .entry))) (take m (now (right .entry)))) ⌝ }
+    {
         let mut names = [0u16; Self::LIMIT];
         let mut i = 0;
         let mut j = 0;
         let mut k = 0;
-        while i < n {
-            if j >= m {
-                return Self { n: k, names }.append(self, i);
-            }
-            if k >= Self::LIMIT {
-                return Self::over();
-            }
-            let x = self.names[i];
-            let y = other.names[j];
-            if x < y {
-                names[k] = x;
-                i += 1;
-                k += 1;
-            } else if y < x {
-                names[k] = y;
+        while k < Self::LIMIT {
+            let at = k;
+            k += 1;
+            if i >= n {
+                if j >= m {
+                    return Self::made(at, names);
+                }
+                names[at] = right[j];
                 j += 1;
-                k += 1;
+            } else if j >= m {
+                names[at] = left[i];
+                i += 1;
+            } else if left[i] < right[j] {
+                names[at] = left[i];
+                i += 1;
+            } else if right[j] < left[i] {
+                names[at] = right[j];
+                j += 1;
             } else {
-                names[k] = x;
+                names[at] = left[i];
                 i += 1;
                 j += 1;
-                k += 1;
             }
         }
-        Self { n: k, names }.append(other, j)
-    }
-
-    // The other part's names, from one of them on, go after this one's.
-    fn append(self, other: Self, from: usize) -> Made
-        requires { ⌜ self ≡ partOf (namesOf self) ⌝ }
-        ensures { λ r. ⌜ r ≡ narrowOf (namesOf self ++ drop from (namesOf other)) ⌝ }
-    {
-        let m = other.size();
-        let mut names = self.names;
-        let mut k = self.n;
-        let mut j = from;
-        while j < m {
-            if k >= Self::LIMIT {
-                return Self::over();
-            }
-            names[k] = other.names[j];
-            j += 1;
-            k += 1;
+        if i < n {
+            return Self::over();
+        }
+        if j < m {
+            return Self::over();
         }
         Self::made(k, names)
     }
@@ -238,8 +288,7 @@ impl PartialComplexEntity {
         requires { ⌜ at + 13 ≤ length (now rows) ⌝ }
         ensures { λ r. ⌜ r ≡ partOf (partAt (drop at (now (rows .entry)))) ⌝ }
     {
-        let count = rows[at] as usize;
-        let n = Self::at_most(count);
+        let n = Self::size_at(rows, at);
         let mut names = [0u16; Self::LIMIT];
         let mut i = 0;
         while i < n {
@@ -273,6 +322,14 @@ impl PartialComplexEntity {
         ensures { λ r. ⌜ r ≡ length (namesOf self) ⌝ }
     {
         Self::at_most(self.n)
+    }
+
+    // The same, of the row at a place.
+    fn size_at(rows: &[u16], at: usize) -> usize
+        requires { ⌜ at + 13 ≤ length (now rows) ⌝ }
+        ensures { λ r. ⌜ r ≡ length (partAt (drop at (now (rows .entry)))) ⌝ }
+    {
+        Self::at_most(rows[at] as usize)
     }
 
     fn at_most(count: usize) -> usize

@@ -1,22 +1,28 @@
 -- From the empty list: `bitand`; and one factor more of an ANDOR.
 use Prim.Native.Nat.{ℕ, _*_, _≤_}
 use mathlib.Core.Path.{_≡_, refl, sym, ap, _∙_}
+use mathlib.Core.Logic.{inl, inr}
 use mathlib.Core.List.{List, _++_}
 use native.Mathlib.Omega.{arith}
 use lib.ListN.{length, take, drop, length-append}
-use Rattle.refusal.specs.MeaningAnswer.{Answer}
+use Rattle.refusal.specs.MeaningAnswer.{Answer, refused}
 use Rattle.refusal.specs.declared.Refusal.{Refusal}
+use Rattle.complex_entity.specs.MeaningSets.{_∈_}
 use Rattle.complex_entity.specs.MeaningParts.{Part}
 use Rattle.complex_entity.specs.MeaningLists.{add, joins, bitand, held}
 use Rattle.complex_entity.specs.MeaningRows.{flat}
 use Rattle.complex_entity.specs.MirrorLists.{grown}
+use Rattle.complex_entity.proofs.Sets.{tidy-same}
+use Rattle.complex_entity.proofs.Orders.{part-order}
+use Rattle.complex_entity.proofs.Members.{∈-append-left, ∈-append-right, ∈-append-cases, add-old, add-left, add-right, add-rising}
+use Rattle.complex_entity.proofs.Limits.{held-less}
 use Rattle.instantiables.specs.declared.Instantiables.{Instantiables}
 use Rattle.instantiables.specs.declared.Listed.{Listed}
 use Rattle.instantiables.specs.declared.Listed.the-variants.{Rows, Refused}
 use Rattle.instantiables.specs.MirrorRows.{partsAt, Stands, Sets, Listing}
 use Rattle.instantiables.specs.Told.{toldListed}
 use Rattle.instantiables.proofs.Flats.{parts-length, parts-narrow, parts-flat, flat-length}
-use Rattle.instantiables.proofs.Listings.{stands-empty}
+use Rattle.instantiables.proofs.Listings.{stands-empty, put-stands, listing-got, listing-parts, listing-over, listing-refused}
 use Rattle.instantiables.proofs.Growing.{Growing, grow-start, grow-next, grow-over, grow-last}
 
 -- ---- from the empty list
@@ -31,7 +37,7 @@ module _ (rows : List ℕ) (l : Instantiables) (e : l ≡ record { count = 0 }) 
 
 pub ruleset crossed = (none-stands, none-joins)
 
--- ---- one factor more: the list as it was stands in old too
+-- ---- a list that was copied
 module _ (rows old z : List ℕ) (count : ℕ) (h : Stands rows count) (e : old ≡ take (13 * count) rows ++ drop (13 * count) z) where
   is-flat : old ≡ flat (partsAt count rows) ++ drop (13 * count) z
   is-flat = e ∙ ap (λ (x : List ℕ). x ++ drop (13 * count) z) (h .clean)
@@ -50,32 +56,72 @@ module _ (rows old z : List ℕ) (count : ℕ) (h : Stands rows count) (e : old 
   pub copied-sets : Sets (partsAt count rows) → Sets (partsAt count old)
   copied-sets s = rw copied s
 
-  module _ (T : List Part) (rows′ : List ℕ) (r : Listed) (g : Listing (held (add (partsAt count rows) (joins (partsAt count old) T))) rows rows′ (toldListed r)) where
-    L : List Part
-    L = partsAt count rows
+-- what was added stands
+pub added-stands : (L K : List Part) (rows rows′ : List ℕ) (r : Listed) → Listing (held (add L K)) rows rows′ (toldListed r) → 1664 ≤ length rows
+    → (l : Instantiables) → r ≡ Rows l → Stands rows′ (l .count)
+added-stands L K rows rows′ r g h l u =
+    let x = listing-got (add L K) rows rows′ (toldListed r) g (l .count) (ap toldListed u) in
+    rw (← x .count) (put-stands (add L K) rows rows′ (x .slim) (x .put) (x .small) h (add-rising L K))
 
-    from : Listing (held (add L (joins L T))) rows rows′ (toldListed r)
-    unfolding L
-    from = rw copied at g
+-- ---- from the empty list, T is added and then J
+module _ (T J : List Part) (rows : List ℕ) (l : Instantiables) (e : l ≡ record { count = 0 }) (h : 1664 ≤ length rows) (rows₁ : List ℕ) (r : Listed)
+    (g : Listing (held (add (partsAt (l .count) rows) T)) rows rows₁ (toldListed r)) where
+  base : Growing rows rows (l .count) (T ++ J) (held (add T J))
+  unfolding partsAt
+  base = rw e (grow-start rows 0 (T ++ J) (held (add T J)) (stands-empty rows h) refl)
 
-    base : Growing rows rows count (joins L T ++ T) (held (grown L T))
-    unfolding L grown
-    base = grow-start rows count (joins L T ++ T) _ h refl
+  pub two-over : (why : Refusal) → r ≡ Refused why → Listing (held (add T J)) rows rows₁ (toldListed r)
+  two-over why u = grow-over rows rows (l .count) (T ++ J) _ base rows₁ T (toldListed r) g J refl (why .number) (why .place) (ap toldListed u)
 
-    pub factor-over : (why : Refusal) → r ≡ Refused why → Listing (held (grown (partsAt count rows) T)) rows rows′ (toldListed r)
-    unfolding L
-    factor-over why u = grow-over rows rows count (joins L T ++ T) _ base rows′ (joins L T) (toldListed r) from T refl (why .number) (why .place) (ap toldListed u)
+  module _ (own : Instantiables) (u : r ≡ Rows own) where
+    more : Growing rows rows₁ (own .count) J (held (add T J))
+    more = grow-next rows rows (l .count) (T ++ J) _ base rows₁ T (toldListed r) g J refl (own .count) (ap toldListed u)
 
-    module _ (l : Instantiables) (u : r ≡ Rows l) where
-      more : Growing rows rows′ (l .count) T (held (grown L T))
-      unfolding L
-      more = grow-next rows rows count (joins L T ++ T) _ base rows′ (joins L T) (toldListed r) from T refl (l .count) (ap toldListed u)
+    pub two-done : (rows₂ : List ℕ) (t : Answer ℕ) → Listing (held (add (partsAt (own .count) rows₁) J)) rows₁ rows₂ t → Listing (held (add T J)) rows rows₂ t
+    two-done rows₂ t x = grow-last rows rows₁ (own .count) J _ more rows₂ J t x refl
 
-      pub factor-stands : Stands rows′ (l .count)
-      factor-stands = more .front .stands
+pub ruleset twofold = (none-stands, added-stands, two-over, two-done)
 
-      pub factor-done : (rows″ : List ℕ) (t : Answer ℕ) → Listing (held (add (partsAt (l .count) rows′) T)) rows′ rows″ t → Listing (held (grown (partsAt count rows) T)) rows rows″ t
-      unfolding L
-      factor-done rows″ t g₂ = grow-last rows rows′ (l .count) T _ more rows″ T t g₂ refl
+-- ---- one factor more: T's parts and the joins are united with the list
+grown-is : (L T : List Part) → add L (add T (joins L T)) ≡ grown L T
+unfolding grown
+grown-is L T = tidy-same part-order (L ++ add T J) (L ++ (J ++ T)) to fro
+  where
+    J : List Part
+    J = joins L T
 
-pub ruleset stepping = (copied-room, copied-sets, factor-over, factor-stands, factor-done)
+    to : (q : Part) → q ∈ (L ++ add T J) → q ∈ (L ++ (J ++ T))
+    to q m = elim (∈-append-cases L (add T J) m) [
+      | inl i ↦ ∈-append-left L (J ++ T) i
+      | inr n ↦ ∈-append-right L (J ++ T) (elim (add-old T J n) [ inl k ↦ ∈-append-right J T k | inr j ↦ ∈-append-left J T j ])
+    ]
+
+    fro : (q : Part) → q ∈ (L ++ (J ++ T)) → q ∈ (L ++ add T J)
+    fro q m = elim (∈-append-cases L (J ++ T) m) [
+      | inl i ↦ ∈-append-left L (add T J) i
+      | inr n ↦ ∈-append-right L (add T J) (elim (∈-append-cases J T n) [ inl j ↦ add-right T J j | inr k ↦ add-left T J k ])
+    ]
+
+module _ (L T : List Part) (old old₁ : List ℕ) (r : Listed) (g : Listing (held (add T (joins L T))) old old₁ (toldListed r)) where
+  K : List Part
+  K = add T (joins L T)
+
+  pub step-over : (rows : List ℕ) (why : Refusal) → r ≡ Refused why → Listing (held (grown L T)) rows rows (toldListed r)
+  unfolding K
+  step-over rows why u =
+      let x = listing-over K old old₁ (toldListed r) g (why .number) (why .place) (ap toldListed u) in
+      let z : held (add L K) ≡ refused 11 0 = held-less K (add L K) (add-rising T (joins L T)) (add-rising L K) (λ q m. add-right L K m) (x .0) in
+      rw (x .1) (listing-refused (held (grown L T)) rows rows 11 0 (ap held (sym (grown-is L T)) ∙ z))
+
+  module _ (more : Instantiables) (u : r ≡ Rows more) where
+    pub step-done : (rows rows′ : List ℕ) (t : Answer ℕ) → Listing (held (add L (partsAt (more .count) old₁))) rows rows′ t → Listing (held (grown L T)) rows rows′ t
+    unfolding K
+    step-done rows rows′ t x =
+        let p : partsAt (more .count) old₁ ≡ K = listing-parts K old old₁ (toldListed r) g (more .count) (ap toldListed u) in
+        let q : add L (partsAt (more .count) old₁) ≡ grown L T = ap (add L) p ∙ grown-is L T in
+        rw q at x
+
+pub stands-inside : (rows : List ℕ) (count : ℕ) → Stands rows count → 13 * count ≤ length rows
+stands-inside rows count s = omega (arith, s .small, s .room)
+
+pub ruleset stepping = (stands-inside, added-stands, step-over, step-done)

@@ -9,13 +9,12 @@ use Rattle.refusal.specs.MeaningAnswer.{Answer, done, refused}
 use Rattle.complex_entity.specs.MeaningSets.{_∈_, here, there, Rising}
 use Rattle.complex_entity.specs.MeaningParts.{Part, join}
 use Rattle.complex_entity.specs.MeaningLists.{add, joins, held}
-use Rattle.complex_entity.specs.MirrorParts.{namesOf, partOf, narrowOf, merge, partAt}
+use Rattle.complex_entity.specs.MirrorParts.{namesOf, narrowOf, merge, partAt}
 use Rattle.complex_entity.specs.declared.Made.{Made}
 use Rattle.complex_entity.specs.declared.Verdict.the-variants.{Done, Refused as Unmade}
 use Rattle.complex_entity.proofs.Names.{names-of-part}
 use Rattle.complex_entity.proofs.Answers.{narrow-made, narrow-refused}
 use Rattle.complex_entity.proofs.Merging.{merge-is}
-use Rattle.complex_entity.specs.declared.PartialComplexEntity.{PartialComplexEntity}
 use Rattle.complex_entity.proofs.Sets.{not-in-nil}
 use Rattle.refusal.specs.declared.Refusal.{Refusal}
 use Rattle.instantiables.specs.declared.Instantiables.{Instantiables}
@@ -68,28 +67,28 @@ module _ (F : List Part → List Part) (source rows₀ rows : List ℕ) (n at le
     pub feed-done : left ≤ 0 → Listing o rows₀ rows (done n)
     feed-done h = grow-done rows₀ rows n (F (partsAt left (drop at source))) o (f .grow) (ap F (none-left (drop at source) left h) ∙ E .none)
 
-    module _ (h : 0 < left) (x : PartialComplexEntity) (w : x ≡ partOf (partAt (drop at source))) where
+    module _ (h : 0 < left) (q : Part) (w : q ≡ partAt (drop at source)) where
       rest : List Part
       rest = F (partsAt (left - 1) (drop (at + 13) source))
 
-      turn : F (partsAt left (drop at source)) ≡ F (namesOf x ∷ []) ++ rest
+      turn : F (partsAt left (drop at source)) ≡ F (q ∷ []) ++ rest
       unfolding rest
-      turn = ap F (ahead source at left h) ∙ E .more (partAt (drop at source)) _ ∙ rw (names-of (partAt (drop at source)) x w)
+      turn = ap F (ahead source at left h) ∙ E .more (partAt (drop at source)) _ ∙ rw w
 
-      module _ (rows′ : List ℕ) (r : Listed) (g : Listing (held (add (partsAt n rows) (F (namesOf x ∷ [])))) rows rows′ (toldListed r)) where
+      module _ (rows′ : List ℕ) (r : Listed) (g : Listing (held (add (partsAt n rows) (F (q ∷ [])))) rows rows′ (toldListed r)) where
         pub feed-next : (l : Instantiables) → r ≡ Rows l → Feeding F source rows₀ rows′ (l .count) (at + 13) (left - 1) o
         unfolding rest
         feed-next l u =
             record {
               inside = omega (arith, f .inside);
-              grow = grow-next rows₀ rows n (F (partsAt left (drop at source))) o (f .grow) rows′ (F (namesOf x ∷ [])) (toldListed r) g rest turn (l .count) (ap toldListed u);
+              grow = grow-next rows₀ rows n (F (partsAt left (drop at source))) o (f .grow) rows′ (F (q ∷ [])) (toldListed r) g rest turn (l .count) (ap toldListed u);
             }
 
         pub feed-over : (why : Refusal) → r ≡ Refused why → Listing o rows₀ rows′ (toldListed r)
         feed-over why u =
-            grow-over rows₀ rows n (F (partsAt left (drop at source))) o (f .grow) rows′ (F (namesOf x ∷ [])) (toldListed r) g rest turn (why .number) (why .place) (ap toldListed u)
+            grow-over rows₀ rows n (F (partsAt left (drop at source))) o (f .grow) rows′ (F (q ∷ [])) (toldListed r) g rest turn (why .number) (why .place) (ap toldListed u)
 
-pub ruleset feeding = (each-itself, feed-start, feed-stands, feed-long, feed-inside, feed-done, feed-next, feed-over)
+pub ruleset feeding = (names-of, each-itself, feed-start, feed-stands, feed-long, feed-inside, feed-done, feed-next, feed-over)
 
 -- ---- the parts ahead are sets of names
 pub record Ahead (source : List ℕ) (at left : ℕ) : Type 0 where
@@ -102,12 +101,12 @@ module _ (source : List ℕ) (at left : ℕ) (s : Ahead source at left) (h : 0 <
   pub ahead-next : Ahead source (at + 13) (left - 1)
   ahead-next = record { all = λ q m. s .all q (rw (ahead source at left h) (there m)) }
 
-  pub ahead-first : (x : PartialComplexEntity) → x ≡ partOf (partAt (drop at source)) → Rising compare (namesOf x)
-  ahead-first x w = s .all (namesOf x) (rw (ahead source at left h) (here (names-of (partAt (drop at source)) x w)))
+  pub ahead-first : Rising compare (partAt (drop at source))
+  ahead-first = s .all (partAt (drop at source)) (rw (ahead source at left h) (here refl))
 
-  pub ahead-sets : (x : PartialComplexEntity) → x ≡ partOf (partAt (drop at source)) → Sets (namesOf x ∷ [])
-  ahead-sets x w q (here e) = rw e (ahead-first x w)
-  ahead-sets x w q (there m) = absurd (not-in-nil m)
+  pub ahead-sets : Sets (partAt (drop at source) ∷ [])
+  ahead-sets q (here e) = rw e ahead-first
+  ahead-sets q (there m) = absurd (not-in-nil m)
 
 -- ---- the joins of each row with each of K: all are added by one call
 pub record Crossing (K : List Part) (source rows₀ rows : List ℕ) (n at left : ℕ) (o : Answer (List Part)) : Type 0 where
@@ -133,23 +132,23 @@ module _ (K : List Part) (source rows₀ rows : List ℕ) (n at left : ℕ) (o :
   pub cross-done : left ≤ 0 → Listing o rows₀ rows (done n)
   cross-done h = feed-done (joined-to K) source rows₀ rows n at left o (f .feed) (each-joins K) h
 
-  module _ (h : 0 < left) (x : PartialComplexEntity) (w : x ≡ partOf (partAt (drop at source))) where
-    pub cross-sets : Sets (namesOf x ∷ [])
-    cross-sets = ahead-sets source at left (f .sets) h x w
+  module _ (h : 0 < left) where
+    pub cross-sets : Sets (partAt (drop at source) ∷ [])
+    cross-sets = ahead-sets source at left (f .sets) h
 
-    module _ (rows′ : List ℕ) (r : Listed) (g : Listing (held (add (partsAt n rows) (joins (namesOf x ∷ []) K))) rows rows′ (toldListed r)) where
+    module _ (rows′ : List ℕ) (r : Listed) (g : Listing (held (add (partsAt n rows) (joins (partAt (drop at source) ∷ []) K))) rows rows′ (toldListed r)) where
       pub cross-next : (l : Instantiables) → r ≡ Rows l → Crossing K source rows₀ rows′ (l .count) (at + 13) (left - 1) o
       unfolding joined-to
       cross-next l u =
           record {
             inside = omega (arith, f .inside);
             sets = ahead-next source at left (f .sets) h;
-            feed = feed-next (joined-to K) source rows₀ rows n at left o (f .feed) (each-joins K) h x w rows′ r g l u;
+            feed = feed-next (joined-to K) source rows₀ rows n at left o (f .feed) (each-joins K) h _ refl rows′ r g l u;
           }
 
       pub cross-over : (why : Refusal) → r ≡ Refused why → Listing o rows₀ rows′ (toldListed r)
       unfolding joined-to
-      cross-over why u = feed-over (joined-to K) source rows₀ rows n at left o (f .feed) (each-joins K) h x w rows′ r g why u
+      cross-over why u = feed-over (joined-to K) source rows₀ rows n at left o (f .feed) (each-joins K) h _ refl rows′ r g why u
 
 pub ruleset crossing = (cross-start, cross-stands, cross-long, cross-inside, cross-done, cross-sets, cross-next, cross-over)
 
@@ -194,22 +193,22 @@ module _ (p : Part) (source rows₀ rows : List ℕ) (n at left : ℕ) (o : Answ
   pub join-done : left ≤ 0 → Listing o rows₀ rows (done n)
   join-done h = feed-done _ source rows₀ rows n at left o (f .feed) (each-join p) h
 
-  module _ (h : 0 < left) (x : PartialComplexEntity) (w : x ≡ partOf (partAt (drop at source))) (m : Made) (e : m ≡ narrowOf (merge p (namesOf x))) where
-    set : Rising compare (namesOf x)
-    set = ahead-first source at left (f .sets) h x w
+  module _ (h : 0 < left) (m : Made) (e : m ≡ narrowOf (merge p (partAt (drop at source)))) where
+    set : Rising compare (partAt (drop at source))
+    set = ahead-first source at left (f .sets) h
 
     pub join-refused : (why : Refusal) → m .verdict ≡ Unmade why → Listing o rows₀ rows (refused (why .number) (why .place))
     unfolding flatMap
     join-refused why d =
-        let y = made-not p (namesOf x) m (f .own) set e why d in
-        let i : join p (namesOf x) ∈ joins (p ∷ []) (partsAt left (drop at source)) =
-        rw (ahead source at left h) (here (ap (join p) (names-of (partAt (drop at source)) x w))) in
-        rw (y .1) (grow-wide rows₀ rows n _ o (f .feed .grow) (join p (namesOf x)) i (y .0))
+        let y = made-not p (partAt (drop at source)) m (f .own) set e why d in
+        let i : join p (partAt (drop at source)) ∈ joins (p ∷ []) (partsAt left (drop at source)) =
+        rw (ahead source at left h) (here refl) in
+        rw (y .1) (grow-wide rows₀ rows n _ o (f .feed .grow) (join p (partAt (drop at source))) i (y .0))
 
     module _ (d : m .verdict ≡ Done) (rows′ : List ℕ) (r : Listed) (g : Listing (held (add (partsAt n rows) (namesOf (m .part) ∷ []))) rows rows′ (toldListed r)) where
-      as-joins : Listing (held (add (partsAt n rows) (joins (p ∷ []) (namesOf x ∷ [])))) rows rows′ (toldListed r)
+      as-joins : Listing (held (add (partsAt n rows) (joins (p ∷ []) (partAt (drop at source) ∷ [])))) rows rows′ (toldListed r)
       unfolding flatMap
-      as-joins = rw (made-is p (namesOf x) m (f .own) set e d) at g
+      as-joins = rw (made-is p (partAt (drop at source)) m (f .own) set e d) at g
 
       pub join-next : (l : Instantiables) → r ≡ Rows l → Joining p source rows₀ rows′ (l .count) (at + 13) (left - 1) o
       join-next l u =
@@ -217,10 +216,10 @@ module _ (p : Part) (source rows₀ rows : List ℕ) (n at left : ℕ) (o : Answ
             inside = omega (arith, f .inside);
             own = f .own;
             sets = ahead-next source at left (f .sets) h;
-            feed = feed-next _ source rows₀ rows n at left o (f .feed) (each-join p) h x w rows′ r as-joins l u;
+            feed = feed-next _ source rows₀ rows n at left o (f .feed) (each-join p) h _ refl rows′ r as-joins l u;
           }
 
       pub join-over : (why : Refusal) → r ≡ Refused why → Listing o rows₀ rows′ (toldListed r)
-      join-over why u = feed-over _ source rows₀ rows n at left o (f .feed) (each-join p) h x w rows′ r as-joins why u
+      join-over why u = feed-over _ source rows₀ rows n at left o (f .feed) (each-join p) h _ refl rows′ r as-joins why u
 
 pub ruleset joining = (join-start, join-stands, join-long, join-inside, join-done, join-refused, join-next, join-over)

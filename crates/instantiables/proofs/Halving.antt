@@ -12,8 +12,7 @@ use lib.ListN.{length, getD, take, drop, take-append-drop}
 use lib.Seq.{slice, slice-cons, slice-empty, length-slice, take-length, drop-append-le, take-take, length-take-le}
 use Rattle.complex_entity.specs.MeaningSets.{here, Lt, View, less, same, more, Rising, empty, next}
 use Rattle.complex_entity.specs.MeaningParts.{Part, order}
-use Rattle.complex_entity.specs.MirrorParts.{namesOf, partOf, partAt}
-use Rattle.complex_entity.specs.declared.PartialComplexEntity.{PartialComplexEntity}
+use Rattle.complex_entity.specs.MirrorParts.{partAt}
 use Rattle.complex_entity.specs.Told.{toldOrder}
 use Rattle.complex_entity.specs.declared.Order.{Order}
 use Rattle.complex_entity.specs.declared.Order.the-variants.{Less, Same, More}
@@ -23,7 +22,7 @@ use Rattle.instantiables.specs.declared.Spot.{Spot}
 use Rattle.instantiables.specs.declared.Spot.the-variants.{Found, Gap}
 use Rattle.instantiables.specs.MirrorRows.{partsAt, Stands}
 use Rattle.instantiables.specs.MirrorLists.{further, placeOf}
-use Rattle.instantiables.proofs.Flats.{parts-length, parts-at, names-of}
+use Rattle.instantiables.proofs.Flats.{parts-length, parts-at}
 
 -- ---- what a comparison's answer says, and the other way round
 module _ (p q : Part) where
@@ -35,7 +34,7 @@ module _ (p q : Part) where
       go (same h) e = h
       go (more h) e = let z : _≡_ {A = ℕ} 0 1 = cc in absurd (omega arith)
 
-  order-more : order p q ≡ Ordering·gt → Lt order q p
+  pub order-more : order p q ≡ Ordering·gt → Lt order q p
   order-more e = go (part-order .view p q) e
     where
       go : {o : Ordering} → View order p q o → o ≡ Ordering·gt → Lt order q p
@@ -51,12 +50,8 @@ module _ (p q : Part) where
       go (same h) = absurd (part-order .irrefl q (rw h at k))
       go (more h) = refl
 
--- the order against a part that was read
-pub order-read : (p q : Part) (x : PartialComplexEntity) (t : Ordering) → x ≡ partOf q → t ≡ order p (namesOf x) → t ≡ order p q
-order-read p q x t e h = h ∙ ap (order p) (names-of q x e)
-
 -- ---- parts of a rising list
-rising-left : (a b : List Part) → Rising order (a ++ b) → Rising order a
+pub rising-left : (a b : List Part) → Rising order (a ++ b) → Rising order a
 rising-left [] b r = empty
 rising-left (x ∷ a) b (next B R) = next (λ q m. B q (∈-append-left a b m)) (rising-left a b R)
 

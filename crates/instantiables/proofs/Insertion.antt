@@ -5,7 +5,7 @@ use mathlib.Core.List.{List, [], _∷_, _++_, append-assoc}
 use mathlib.Core.Logic.{inl, inr}
 use native.Mathlib.Omega.{arith}
 use lib.ListN.{length, take, drop, length-append, length-drop}
-use lib.Seq.{paste, drop-at, take-all, take-take, take-append-le, length-take-le}
+use lib.Seq.{paste, take-add, drop-at, take-all, take-take, take-append-le, length-take-le}
 use mir.Syntax.{w64}
 use mir.Val.{Fits}
 use borrow.Author.Needs.{fits-under}
@@ -26,7 +26,7 @@ use Rattle.instantiables.specs.declared.Spot.the-variants.{Found, Gap}
 use Rattle.instantiables.specs.declared.Listed.{Listed}
 use Rattle.instantiables.specs.declared.Listed.the-variants.{Refused}
 use Rattle.instantiables.specs.MirrorRows.{partsAt, Stands, Put, Listing}
-use Rattle.instantiables.specs.MirrorLists.{further, placeOf, opened}
+use Rattle.instantiables.specs.MirrorLists.{further, placeOf}
 use Rattle.instantiables.specs.Told.{toldListed}
 use Rattle.instantiables.proofs.Flats.{parts-length, parts-narrow, flat-cons, flat-append, flat-take, flat-drop}
 use Rattle.instantiables.proofs.Listings.{listing-same, listing-refused, listing-done}
@@ -65,6 +65,19 @@ module _ (L : List Part) (p : Part) (s : Spot) (i : ℕ) (e : s ≡ placeOf L p)
       go (before j h w) x =
           let y : j ≡ i = cc in
           subst (λ (k : ℕ). (k ≤ length L) × (insert order p L ≡ take k L ++ p ∷ drop k L)) y (h, w)
+
+-- the numbers from at up to end, a row further up
+abbrev opened : ℕ → ℕ → List ℕ → List ℕ
+opened at end l = take (at + 13) l ++ (drop at (take end l) ++ drop (end + 13) l)
+
+opened-is : (at end : ℕ) (l : List ℕ) → at ≤ end → end ≤ length l → paste l (at + 13) (drop at l) (end - at) ≡ opened at end l
+opened-is at end l h k =
+    let e : at + (end - at) ≡ end = omega arith in
+    let d : at + 13 + (end - at) ≡ end + 13 = omega arith in
+    let x : List ℕ = take (end - at) (drop at l) in
+    let s : drop at (take end l) ≡ x =
+    ap (λ (j : ℕ). drop at (take j l)) (sym e) ∙ rw (take-add at (end - at) l) (drop-at (take at l) x at (length-take-le at l (omega arith))) in
+    rw (d, s) (append-assoc (take (at + 13) l) x (drop (end + 13) l))
 
 -- ---- a row is opened before row i, and p is written there
 module _ (rows : List ℕ) (count i : ℕ) (p : Part) (h : Stands rows count) (hi : i ≤ count) (hc : count < 128) (hp : length p ≤ 12) where
@@ -141,16 +154,20 @@ module _ (rows : List ℕ) (count : ℕ) (x : PartialComplexEntity) (s : Spot) (
       pub insert-at : 13 * i ≤ 13 * count
       insert-at = omega (arith, inside)
 
-      pub insert-end : 13 * count + 13 ≤ length rows
-      insert-end = omega (arith, h .room)
+      pub insert-end : 13 * i + 13 + (13 * count - 13 * i) ≤ length rows
+      insert-end = omega (arith, inside, h .room)
+
+      pub insert-add : Fits w64 (13 * i + 13)
+      insert-add = fits-under w64 (13 * i + 13) 2000 (omega (arith, inside)) tt
 
       pub insert-inside : (rows₁ : List ℕ) → length rows₁ ≡ length rows → 13 * i + 13 ≤ length rows₁
       insert-inside rows₁ l = omega (arith, inside, h .room)
 
-      pub insert-grown : (rows₁ rows₂ : List ℕ) → rows₁ ≡ opened (13 * i) (13 * count) rows → rows₂ ≡ paste rows₁ (13 * i) (rowOf (namesOf x)) 13 → length (x .names) ≡ 12
+      pub insert-grown : (rows₁ rows₂ : List ℕ) → rows₁ ≡ paste rows (13 * i + 13) (drop (13 * i) rows) (13 * count - 13 * i) → rows₂ ≡ paste rows₁ (13 * i) (rowOf (namesOf x)) 13 → length (x .names) ≡ 12
           → Listing (held (add (partsAt count rows) (namesOf x ∷ []))) rows rows₂ (done (count + 1))
       unfolding more L
-      insert-grown rows₁ rows₂ o w m =
+      insert-grown rows₁ rows₂ o′ w m =
+          let o : rows₁ ≡ opened (13 * i) (13 * count) rows = o′ ∙ opened-is (13 * i) (13 * count) rows (omega (arith, inside)) (omega (arith, h .room)) in
           let a : length (namesOf x) ≤ 12 = names-few x m in
           let v : rows₂ ≡ paste (opened (13 * i) (13 * count) rows) (13 * i) (rowOf (namesOf x)) 13 = w ∙ ap (λ (t : List ℕ). paste t (13 * i) (rowOf (namesOf x)) 13) o in
           listing-done _ more rows rows₂ (count + 1) (held-done more (omega (arith, longer)) narrow) longer
@@ -162,4 +179,4 @@ module _ (rows : List ℕ) (count : ℕ) (x : PartialComplexEntity) (s : Spot) (
             | inr j ↦ elim j [ here d ↦ rw d (names-few x m) | there k ↦ absurd (not-in-nil k) ]
           ]
 
-pub ruleset inserting = (insert-found, insert-mul, insert-full, insert-at, insert-end, insert-inside, insert-grown)
+pub ruleset inserting = (insert-found, insert-mul, insert-full, insert-at, insert-end, insert-add, insert-inside, insert-grown)

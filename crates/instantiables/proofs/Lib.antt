@@ -7,6 +7,7 @@ pub mod Insertion
 pub mod Seeking
 pub mod Keeping
 pub mod Feeds
+pub mod Unions
 pub mod Factors
 pub mod Walks
 pub mod Terms

@@ -70,6 +70,9 @@ module _ (L : List Part) (before after : List ℕ) (r : Answer ℕ) (f : Listing
       go (is-held h n) s p = record { count = (cc); small = h; slim = n; put = p }
       go (is-over h) s p = let z : _≡_ {A = ℕ} 0 1 = cc in absurd (omega arith)
 
+  pub listing-parts : (k : ℕ) → r ≡ done k → partsAt k after ≡ L
+  listing-parts k e = let g = listing-got k e in rw (← g .count) (put-parts L before after (g .slim) (g .put))
+
   pub listing-over : (a b : ℕ) → r ≡ refused a b → (held L ≡ refused 11 0) × (r ≡ refused 11 0)
   listing-over a b e = go (held-view L) (f .says)
     where
@@ -100,7 +103,7 @@ module _ (rows₀ rows rows′ : List ℕ) (n : ℕ) (f : Front rows₀ rows n) 
     got = listing-got L rows rows′ r g k e
 
     pub front-parts : partsAt k rows′ ≡ L
-    front-parts = rw (← got .count) (put-parts L rows rows′ (got .slim) (got .put))
+    front-parts = listing-parts L rows rows′ r g k e
 
     pub front-next : Front rows₀ rows′ k
     front-next =

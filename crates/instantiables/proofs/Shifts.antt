@@ -1,68 +1,83 @@
--- Numbers that move: the loops of `open_row` and `copy`.
+-- Numbers that move: the loops of `raise` and `copy`, and a row that is copied.
 use Prim.Native.Nat.{ℕ, suc, _+_, _-_, _≤_, _<_}
 use mathlib.Core.Path.{_≡_, refl, sym, ap, _∙_}
-use mathlib.Core.List.{List, _∷_, _++_}
+use mathlib.Core.List.{List, [], _∷_, _++_, append-assoc, append-nil}
 use native.Mathlib.Omega.{arith}
 use native.Mathlib.Numerals.{add-one}
-use lib.ListN.{length, getD, take, drop, set, length-set, take-append-drop, List·getD-append}
-use lib.Seq.{slice-empty, take-suc, drop-cons, append-snoc, set-at, getD-take, length-take-le}
-use Rattle.instantiables.specs.MirrorLists.{opened}
+use native.Mathlib.Nat.{add-zero}
+use lib.ListN.{length, getD, take, drop, set, length-set, length-drop, take-append-drop, drop-of-length-le, List·getD-append}
+use lib.Seq.{paste, take-all, take-add, drop-at, drop-drop, take-suc, drop-cons, append-snoc, set-at, getD-take, getD-drop, length-take-le}
 
-pub record Opening (rows₀ rows : List ℕ) (at end k : ℕ) : Type 0 where
-  pub low : at ≤ k
-  pub high : k ≤ end
-  pub inside : end + 13 ≤ length rows₀
-  pub is : rows ≡ opened k end rows₀
+-- k of the n numbers are still to go, those after them stand further up
+unfoldable pub moving : List ℕ → ℕ → ℕ → ℕ → ℕ → List ℕ
+moving l from to n k = take (to + k) l ++ (drop k (take n (drop from l)) ++ drop (to + n) l)
+
+pub record Raising (rows₀ rows : List ℕ) (from to n k : ℕ) : Type 0 where
+  pub up : from ≤ to
+  pub high : k ≤ n
+  pub inside : to + n ≤ length rows₀
+  pub is : rows ≡ moving rows₀ from to n k
   pub long : length rows ≡ length rows₀
 
-pub open-start : (rows : List ℕ) (at end : ℕ) → at ≤ end → end + 13 ≤ length rows → Opening rows rows at end end
-open-start rows at end h k =
-    record { low = h; high = omega arith; inside = k; is = sym (rw (slice-empty end rows) (take-append-drop (end + 13) rows)); long = refl }
+taken-length : (l : List ℕ) (from to n : ℕ) → from ≤ to → to + n ≤ length l → length (take n (drop from l)) ≡ n
+taken-length l from to n h k = length-take-le n (drop from l) (omega (arith, length-drop from l))
+
+pub raise-start : (rows : List ℕ) (from to n : ℕ) → from ≤ to → to + n ≤ length rows → Raising rows rows from to n n
+unfolding moving
+raise-start rows from to n h k =
+    let e : drop n (take n (drop from rows)) ≡ [] = drop-of-length-le (take n (drop from rows)) {i = n} (omega (arith, taken-length rows from to n h k)) in
+    record { up = h; high = omega arith; inside = k; is = sym (rw e (take-append-drop (to + n) rows)); long = refl }
 
 -- one number more moves up
-opened-step : (l : List ℕ) (j end : ℕ) → suc j ≤ end → end + 13 ≤ length l → set (opened (suc j) end l) (j + 13) (getD (opened (suc j) end l) j 0) ≡ opened j end l
-opened-step l j end h k =
-    let z : List ℕ = drop (suc j) (take end l) ++ drop (end + 13) l in
-    let e : suc j + 13 ≡ suc (j + 13) = omega arith in
-    let t : length (take (suc (j + 13)) l) ≡ suc (j + 13) = length-take-le (suc (j + 13)) l (omega arith) in
-    let g : getD (take (suc (j + 13)) l ++ z) j 0 ≡ getD l j 0 =
-    List·getD-append (take (suc (j + 13)) l) z 0 j (omega arith) ∙ getD-take (suc (j + 13)) l j 0 (omega arith) in
-    let s : take (suc (j + 13)) l ++ z ≡ take (j + 13) l ++ getD l (j + 13) 0 ∷ z =
-    ap (λ (x : List ℕ). x ++ z) (take-suc l (j + 13) 0 (omega arith)) ∙ append-snoc (take (j + 13) l) (getD l (j + 13) 0) z in
-    let u : drop j (take end l) ≡ getD l j 0 ∷ drop (suc j) (take end l) =
-    drop-cons (take end l) j 0 (rw (length-take-le end l (omega arith)) h) ∙ rw (getD-take end l j 0 h) in
+moved-step : (l : List ℕ) (from to n j : ℕ) → from ≤ to → suc j ≤ n → to + n ≤ length l
+    → set (moving l from to n (suc j)) (to + j) (getD (moving l from to n (suc j)) (from + j) 0) ≡ moving l from to n j
+unfolding moving
+moved-step l from to n j o h k =
+    let S : List ℕ = take n (drop from l) in
+    let z : List ℕ = drop (suc j) S ++ drop (to + n) l in
+    let e : to + suc j ≡ suc (to + j) = omega arith in
+    let t : length (take (suc (to + j)) l) ≡ suc (to + j) = length-take-le (suc (to + j)) l (omega arith) in
+    let g : getD (take (suc (to + j)) l ++ z) (from + j) 0 ≡ getD S j 0 =
+    List·getD-append (take (suc (to + j)) l) z 0 (from + j) (omega arith) ∙ getD-take (suc (to + j)) l (from + j) 0 (omega arith)
+    ∙ sym (getD-take n (drop from l) j 0 h ∙ getD-drop from l j 0) in
+    let s : take (suc (to + j)) l ++ z ≡ take (to + j) l ++ getD l (to + j) 0 ∷ z =
+    ap (λ (x : List ℕ). x ++ z) (take-suc l (to + j) 0 (omega arith)) ∙ append-snoc (take (to + j) l) (getD l (to + j) 0) z in
+    let u : drop j S ≡ getD S j 0 ∷ drop (suc j) S = drop-cons S j 0 (omega (arith, taken-length l from to n o k)) in
     rw (e, g, u)
-    (ap (λ (x : List ℕ). set x (j + 13) (getD l j 0)) s
-    ∙ set-at (take (j + 13) l) (getD l (j + 13) 0) z (getD l j 0) (j + 13) (length-take-le (j + 13) l (omega arith)))
+    (ap (λ (x : List ℕ). set x (to + j) (getD S j 0)) s
+    ∙ set-at (take (to + j) l) (getD l (to + j) 0) z (getD S j 0) (to + j) (length-take-le (to + j) l (omega arith)))
 
-module _ (rows₀ rows : List ℕ) (at end k : ℕ) (f : Opening rows₀ rows at end k) where
-  pub open-long : length rows ≡ length rows₀
-  open-long = f .long
+module _ (rows₀ rows : List ℕ) (from to n k : ℕ) (f : Raising rows₀ rows from to n k) where
+  pub raise-long : length rows ≡ length rows₀
+  raise-long = f .long
 
-  pub open-done : k ≤ at → rows ≡ opened at end rows₀
-  open-done h = let e : k ≡ at = omega (arith, f .low) in f .is ∙ ap (λ (j : ℕ). opened j end rows₀) e
+  pub raise-done : k ≤ 0 → rows ≡ paste rows₀ to (drop from rows₀) n
+  unfolding moving
+  raise-done h =
+      let e : k ≡ 0 = omega arith in
+      f .is ∙ rw (e, add-zero to) (sym (append-assoc (take to rows₀) (take n (drop from rows₀)) (drop (to + n) rows₀)))
 
-  module _ (h : at < k) where
-    pub open-read : k - 1 < length rows
-    open-read = omega (arith, f .high, f .inside, f .long)
+  module _ (h : 0 < k) where
+    pub raise-read : from + (k - 1) < length rows
+    raise-read = omega (arith, f .up, f .high, f .inside, f .long)
 
-    pub open-write : k - 1 + 13 < length rows
-    open-write = omega (arith, f .high, f .inside, f .long)
+    pub raise-write : to + (k - 1) < length rows
+    raise-write = omega (arith, f .high, f .inside, f .long)
 
-    pub open-next : Opening rows₀ (set rows (k - 1 + 13) (getD rows (k - 1) 0)) at end (k - 1)
-    open-next =
+    pub raise-next : Raising rows₀ (set rows (to + (k - 1)) (getD rows (from + (k - 1)) 0)) from to n (k - 1)
+    raise-next =
         let e : k ≡ suc (k - 1) = omega arith in
         record {
-          low = omega arith;
+          up = f .up;
           high = omega (arith, f .high);
           inside = f .inside;
           is =
-              ap (λ (x : List ℕ). set x (k - 1 + 13) (getD x (k - 1) 0)) (f .is ∙ ap (λ (j : ℕ). opened j end rows₀) e)
-              ∙ opened-step rows₀ (k - 1) end (omega (arith, f .high)) (f .inside);
+              ap (λ (x : List ℕ). set x (to + (k - 1)) (getD x (from + (k - 1)) 0)) (f .is ∙ ap (moving rows₀ from to n) e)
+              ∙ moved-step rows₀ from to n (k - 1) (f .up) (omega (arith, f .high)) (f .inside);
           long = length-set rows _ _ ∙ f .long;
         }
 
-pub ruleset opening = (open-start, open-long, open-done, open-read, open-write, open-next)
+pub ruleset raising = (raise-start, raise-long, raise-done, raise-read, raise-write, raise-next)
 
 pub record Copying (to₀ to from : List ℕ) (n i : ℕ) : Type 0 where
   pub at : i ≤ n
@@ -104,3 +119,18 @@ module _ (to₀ to from : List ℕ) (n i : ℕ) (f : Copying to₀ to from n i) 
         }
 
 pub ruleset copying = (copy-start, copy-long, copy-done, copy-read, copy-write, copy-next)
+
+-- ---- a row that is copied from another slice
+pub row-copied : (rows others rows′ t : List ℕ) (to from : ℕ) → to + 13 ≤ length rows → from + 13 ≤ length others
+    → t ≡ take 13 (take (length others - from) (drop from others)) ++ drop 13 (take (length rows - to) (drop to rows))
+    → rows′ ≡ take to rows ++ (t ++ drop (length rows - to) (drop to rows))
+    → rows′ ≡ paste rows to (drop from others) 13
+row-copied rows others rows′ t to from h g e w =
+    let a : take (length others - from) (drop from others) ≡ drop from others = take-all (length others - from) (drop from others) (omega (arith, length-drop from others)) in
+    let b : take (length rows - to) (drop to rows) ≡ drop to rows = take-all (length rows - to) (drop to rows) (omega (arith, length-drop to rows)) in
+    let c : drop (length rows - to) (drop to rows) ≡ [] = drop-of-length-le (drop to rows) {i = length rows - to} (omega (arith, length-drop to rows)) in
+    w ∙ rw (e, a, b, c, append-nil, drop-drop 13 to rows) (sym (append-assoc (take to rows) (take 13 (drop from others)) (drop (to + 13) rows)))
+
+-- a row where it stands
+pub row-slice : (l : List ℕ) (a : ℕ) → a + 13 ≤ length l → drop a (take (a + 13) l) ≡ take 13 (drop a l)
+row-slice l a h = rw (take-add a 13 l) (drop-at (take a l) (take 13 (drop a l)) a (length-take-le a l (omega arith)))

@@ -1,7 +1,6 @@
--- Places in a sorted list, as the code finds and opens them.
-use mathlib.Core.List.{List, [], _∷_, _++_}
-use Prim.Native.Nat.{ℕ, suc, _+_}
-use lib.ListN.{take, drop}
+-- Places in a sorted list, as the code finds them.
+use mathlib.Core.List.{List, [], _∷_}
+use Prim.Native.Nat.{ℕ, _+_}
 use Rattle.complex_entity.specs.MeaningParts.{Part, order}
 use Rattle.complex_entity.specs.MirrorParts.{by}
 use Rattle.instantiables.specs.declared.Spot.{Spot}
@@ -15,7 +14,3 @@ further k (Gap i) = Gap (k + i)
 unfoldable pub placeOf : List Part → Part → Spot
 placeOf [] p = Gap 0
 placeOf (q ∷ L) p = by (order p q) (Gap 0) (Found 0) (further 1 (placeOf L p))
-
--- the numbers from at up to end, a row further up; the row at `at` is what it was
-abbrev pub opened : ℕ → ℕ → List ℕ → List ℕ
-opened at end l = take (at + 13) l ++ (drop at (take end l) ++ drop (end + 13) l)

@@ -5,13 +5,14 @@ ghost use mathlib.Core.Path.{_≡_};
 ghost use mathlib.Core.List.{[], _∷_, _++_};
 ghost use Prim.Native.Nat.{_+_, _*_, _<_, _≤_};
 ghost use lib.ListN.{length, take, drop};
+ghost use lib.Seq.{paste};
 ghost use Rattle.refusal.specs.MeaningAnswer.{done};
 ghost use Rattle.complex_entity.specs.MeaningParts.{order, contains};
 ghost use Rattle.complex_entity.specs.MeaningLists.{add, joins, bitand, sub, div, held, any, equal, oneofOf, prefixes, andOf, andorOf};
 ghost use Rattle.complex_entity.specs.Told.{toldOrder};
 ghost use Rattle.complex_entity.specs.MirrorParts.{namesOf, partAt};
 ghost use Rattle.instantiables.specs.MirrorRows.{partsAt, listsAt, sum, Stands, Sets, AllSets, Put, Listing};
-ghost use Rattle.instantiables.specs.MirrorLists.{placeOf, opened};
+ghost use Rattle.instantiables.specs.MirrorLists.{placeOf};
 ghost use Rattle.complex_entity.specs.MirrorLists.{grown};
 ghost use Rattle.instantiables.specs.Told.{toldListed};
 ghost use Rattle.instantiables.specs.declared.Listed.the-variants.{Refused};
@@ -74,7 +75,12 @@ impl Instantiables {
             return Self::over();
         }
         let at = 13 * i;
-        open_row(rows, at, 13 * self.count);
+        raise(
+            rows,
+            at,
+            at + PartialComplexEntity::ROW,
+            13 * self.count - at,
+        );
         part.write(rows, at);
         Listed::Rows(Self {
             count: self.count + 1,
@@ -102,23 +108,24 @@ impl Instantiables {
         Listed::Rows(list)
     }
 
-    // The joins of a part with each of a list's are added.
+    // The joins of the row at a place with each of a list's are added.
     pub fn add_joins_with(
         self,
         rows: &mut [u16],
-        part: PartialComplexEntity,
+        lefts: &[u16],
+        from: usize,
         other: Self,
         others: &[u16],
     ) -> Listed
-        requires { ⌜ Stands (now rows) (self .count) × (13 * other .count ≤ length (now others)) ⌝ }
-        requires { ⌜ Sets (namesOf part ∷ []) × Sets (partsAt (other .count) (now others)) ⌝ }
-        ensures { λ r. ⌜ Listing (held (add (partsAt (self .count) (now (rows .entry))) (joins (namesOf part ∷ []) (partsAt (other .count) (now (others .entry)))))) (now (rows .entry)) (now (rows .exit)) (toldListed r) ⌝ }
+        requires { ⌜ Stands (now rows) (self .count) × (from + 13 ≤ length (now lefts)) × (13 * other .count ≤ length (now others)) ⌝ }
+        requires { ⌜ Sets (partAt (drop from (now lefts)) ∷ []) × Sets (partsAt (other .count) (now others)) ⌝ }
+        ensures { λ r. ⌜ Listing (held (add (partsAt (self .count) (now (rows .entry))) (joins (partAt (drop from (now (lefts .entry))) ∷ []) (partsAt (other .count) (now (others .entry)))))) (now (rows .entry)) (now (rows .exit)) (toldListed r) ⌝ }
     {
         let mut list = self;
         let mut at = 0;
         let mut left = other.count;
         while 0 < left {
-            let joined = part.join(PartialComplexEntity::read(others, at));
+            let joined = PartialComplexEntity::join_rows(lefts, from, others, at);
             let verdict = joined.verdict;
             if let Verdict::Refused(why) = verdict {
                 return Listed::Refused(why);
@@ -151,8 +158,7 @@ impl Instantiables {
         let mut at = 0;
         let mut todo = left.count;
         while 0 < todo {
-            let part = PartialComplexEntity::read(lefts, at);
-            let r = list.add_joins_with(rows, part, right, rights);
+            let r = list.add_joins_with(rows, lefts, at, right, rights);
             let Listed::Rows(more) = r else {
                 return r;
             };
@@ -178,7 +184,7 @@ impl Instantiables {
         Self::empty().add_joins(rows, left, lefts, right, rights)
     }
 
-    // One factor more of an ANDOR: the list as it was is copied to a scratch that is lent.
+    // One factor more of an ANDOR: its parts and the joins are gathered in a scratch that is lent.
     pub fn andor_step(
         self,
         rows: &mut [u16],
@@ -190,12 +196,37 @@ impl Instantiables {
         requires { ⌜ Sets (partsAt (self .count) (now rows)) × Sets (partsAt (factor .count) (now factors)) ⌝ }
         ensures { λ r. ⌜ Listing (held (grown (partsAt (self .count) (now (rows .entry))) (partsAt (factor .count) (now (factors .entry))))) (now (rows .entry)) (now (rows .exit)) (toldListed r) ⌝ }
     {
-        copy(old, rows, 13 * self.count);
-        let r = self.add_joins(rows, self, old, factor, factors);
+        let r = Self::with_joins(old, factor, factors, self, rows);
         let Listed::Rows(more) = r else {
             return r;
         };
-        more.add(rows, factor, factors)
+        self.unite(rows, more, old)
+    }
+
+    // A list's parts, and the joins of another's with them.
+    fn with_joins(rows: &mut [u16], own: Self, owns: &[u16], left: Self, lefts: &[u16]) -> Listed
+        requires { ⌜ (1664 ≤ length (now rows)) × (13 * own .count ≤ length (now owns)) × (13 * left .count ≤ length (now lefts)) ⌝ }
+        requires { ⌜ Sets (partsAt (own .count) (now owns)) × Sets (partsAt (left .count) (now lefts)) ⌝ }
+        ensures { λ r. ⌜ Listing (held (add (partsAt (own .count) (now (owns .entry))) (joins (partsAt (left .count) (now (lefts .entry))) (partsAt (own .count) (now (owns .entry)))))) (now (rows .entry)) (now (rows .exit)) (toldListed r) ⌝ }
+    {
+        let r = Self::empty().add(rows, own, owns);
+        let Listed::Rows(list) = r else {
+            return r;
+        };
+        list.add_joins(rows, left, lefts, own, owns)
+    }
+
+    // The same as `add` where both lists are sorted: each row moves at most once.
+    pub fn unite(self, rows: &mut [u16], other: Self, others: &[u16]) -> Listed
+        requires { ⌜ Stands (now rows) (self .count) × Stands (now others) (other .count) ⌝ }
+        ensures { λ r. ⌜ Listing (held (add (partsAt (self .count) (now (rows .entry))) (partsAt (other .count) (now (others .entry))))) (now (rows .entry)) (now (rows .exit)) (toldListed r) ⌝ }
+    {
+        let total = together(rows, self.count, others, other.count);
+        if Self::LIMIT < total {
+            return Self::over();
+        }
+        merge(rows, self.count, others, other.count, total);
+        Listed::Rows(Self { count: total })
     }
 
     // [A1, A2, B1, B2] - [A2, B1] = [A1, B2]
@@ -394,20 +425,12 @@ impl Instantiables {
     }
 }
 
-// A part against the row at a place.
-pub fn compare_at(part: PartialComplexEntity, rows: &[u16], at: usize) -> Order
-    requires { ⌜ at + 13 ≤ length (now rows) ⌝ }
-    ensures { λ r. ⌜ toldOrder r ≡ order (namesOf part) (partAt (drop at (now (rows .entry)))) ⌝ }
-{
-    part.compare(PartialComplexEntity::read(rows, at))
-}
-
 // A part is equal to the row at a place.
 fn same_at(part: PartialComplexEntity, rows: &[u16], at: usize) -> bool
     requires { ⌜ at + 13 ≤ length (now rows) ⌝ }
     ensures { λ r. ⌜ r ≡ equal (namesOf part) (partAt (drop at (now (rows .entry)))) ⌝ }
 {
-    match compare_at(part, rows, at) {
+    match part.compare_at(rows, at) {
         Order::Less => false,
         Order::Same => true,
         Order::More => false,
@@ -423,7 +446,7 @@ pub fn place(rows: &[u16], count: usize, part: PartialComplexEntity) -> Spot
     let mut high = count;
     while low < high {
         let middle = low + ((high - low) >> 1);
-        match compare_at(part, rows, 13 * middle) {
+        match part.compare_at(rows, 13 * middle) {
             Order::Less => {
                 high = middle;
             }
@@ -444,7 +467,7 @@ pub fn place_last(rows: &[u16], count: usize, part: PartialComplexEntity) -> Spo
     ensures { λ r. ⌜ r ≡ placeOf (partsAt count (now (rows .entry))) (namesOf part) ⌝ }
 {
     if 0 < count {
-        match compare_at(part, rows, 13 * (count - 1)) {
+        match part.compare_at(rows, 13 * (count - 1)) {
             Order::Less => {
                 return place(rows, count, part);
             }
@@ -459,15 +482,88 @@ pub fn place_last(rows: &[u16], count: usize, part: PartialComplexEntity) -> Spo
     Spot::Gap(0)
 }
 
-// The numbers from `at` up to `end` move up by a row.
-pub fn open_row(rows: &mut [u16], at: usize, end: usize)
-    requires { ⌜ (at ≤ end) × (end + 13 ≤ length (now rows)) ⌝ }
-    ensures { λ _. ⌜ now (rows .exit) ≡ opened at end (now (rows .entry)) ⌝ }
+// How many parts two sorted lists have together, counted from the last ones on.
+fn together(rows: &[u16], count: usize, others: &[u16], other: usize) -> usize
+    requires { ⌜ Stands (now rows) count × Stands (now others) other ⌝ }
+    ensures { λ r. ⌜ r ≡ length (add (partsAt count (now (rows .entry))) (partsAt other (now (others .entry)))) ⌝ }
 {
-    let mut k = end;
-    while at < k {
+    let mut n = count;
+    let mut m = other;
+    let mut passed = 0;
+    while 0 < m {
+        if n == 0 {
+            return passed + m;
+        }
+        match PartialComplexEntity::compare_rows(rows, 13 * (n - 1), others, 13 * (m - 1)) {
+            Order::Less => {
+                m -= 1;
+                passed += 1;
+            }
+            Order::Same => {
+                n -= 1;
+                m -= 1;
+                passed += 1;
+            }
+            Order::More => {
+                n -= 1;
+                passed += 1;
+            }
+        }
+    }
+    passed + n
+}
+
+// Two sorted lists become one of `total` parts, from the last ones on; the first rows that are left stand there already.
+fn merge(rows: &mut [u16], count: usize, others: &[u16], other: usize, total: usize)
+    requires { ⌜ Stands (now rows) count × Stands (now others) other ⌝ }
+    requires { ⌜ (total ≡ length (add (partsAt count (now rows)) (partsAt other (now others)))) × (total ≤ 128) ⌝ }
+    ensures { λ _. ⌜ Put (add (partsAt count (now (rows .entry))) (partsAt other (now (others .entry)))) (now (rows .entry)) (now (rows .exit)) ⌝ }
+{
+    let mut n = count;
+    let mut m = other;
+    let mut to = total;
+    while 0 < m {
+        to -= 1;
+        if n == 0 {
+            m -= 1;
+            copy_row(rows, 13 * to, others, 13 * m);
+        } else {
+            match PartialComplexEntity::compare_rows(rows, 13 * (n - 1), others, 13 * (m - 1)) {
+                Order::Less => {
+                    m -= 1;
+                    copy_row(rows, 13 * to, others, 13 * m);
+                }
+                Order::Same => {
+                    n -= 1;
+                    m -= 1;
+                    raise(rows, 13 * n, 13 * to, PartialComplexEntity::ROW);
+                }
+                Order::More => {
+                    n -= 1;
+                    raise(rows, 13 * n, 13 * to, PartialComplexEntity::ROW);
+                }
+            }
+        }
+    }
+}
+
+// A row of another slice goes to a place.
+fn copy_row(rows: &mut [u16], to: usize, others: &[u16], from: usize)
+    requires { ⌜ (to + 13 ≤ length (now rows)) × (from + 13 ≤ length (now others)) ⌝ }
+    ensures { λ _. ⌜ now (rows .exit) ≡ paste (now (rows .entry)) to (drop from (now (others .entry))) 13 ⌝ }
+{
+    copy(&mut rows[to..], &others[from..], PartialComplexEntity::ROW);
+}
+
+// The n numbers from a place on go to a place that is not before it, the last ones first.
+pub fn raise(rows: &mut [u16], from: usize, to: usize, n: usize)
+    requires { ⌜ (from ≤ to) × (to + n ≤ length (now rows)) ⌝ }
+    ensures { λ _. ⌜ now (rows .exit) ≡ paste (now (rows .entry)) to (drop from (now (rows .entry))) n ⌝ }
+{
+    let mut k = n;
+    while 0 < k {
         k -= 1;
-        rows[k + 13] = rows[k];
+        rows[to + k] = rows[from + k];
     }
 }
 

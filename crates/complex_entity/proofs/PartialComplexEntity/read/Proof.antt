@@ -1,28 +1,18 @@
 -- The invariant: i of the n names of the row are read.
 use Prim.Native.Nat.{_-_}
-use native.Mathlib.Omega.{arith}
 use borrow.Author.Needs.{needs}
 use Rattle.complex_entity.proofs.Rows.{Reading, reading}
 use Rattle.complex_entity.proofs.PartialComplexEntity.read.Statement.{statement}
 use Rattle.complex_entity.proofs.PartialComplexEntity.read.Tie as tie
 
 abbrev Inv-loop : tie.InvT-loop
-Inv-loop rows at count n names₀ i₀ names i = Reading rows at n i names
+Inv-loop rows at n names₀ i₀ names i = Reading rows at n i names
 
 abbrev μ-loop : tie.MeasureT-loop
-μ-loop rows at count n names₀ i₀ names i = n - i
+μ-loop rows at n names₀ i₀ names i = n - i
 
-mul-count : tie.Need-mul-count Inv-loop μ-loop
-mul-count c = search (reading, needs)
-
-shared-slice-read-count : tie.Need-shared-slice-read-count Inv-loop μ-loop
-shared-slice-read-count c = search (reading, needs)
-
-cast-count : tie.Need-cast-count Inv-loop μ-loop
-cast-count c = omega (arith, c .shared-slice-known2 .given (c .before .before .args .at))
-
-at-most-requires : tie.Need-at-most-requires Inv-loop μ-loop
-at-most-requires c κs = search (reading, needs)
+size-at-requires : tie.Need-size-at-requires Inv-loop μ-loop
+size-at-requires c κs = search (reading, needs)
 
 loop-holds : tie.Need-loop-holds Inv-loop μ-loop
 loop-holds c = search (reading, needs)
@@ -63,10 +53,7 @@ read-spec =
     (tie.spec
     Inv-loop
     μ-loop
-    mul-count
-    shared-slice-read-count
-    cast-count
-    at-most-requires
+    size-at-requires
     loop-holds
     add-names
     add-names-2

@@ -1,7 +1,7 @@
 -- `add_joins` meets its contract. The invariant: the joins of the rows that are left, added to the list, make the whole answer.
-use borrow.Author.Needs.{needs}
 use Rattle.instantiables.specs.MirrorRows.{partsAt}
 use Rattle.complex_entity.specs.MeaningLists.{add, joins, held}
+use borrow.Author.Needs.{needs}
 use Rattle.instantiables.proofs.Feeds.{Crossing, crossing}
 use Rattle.instantiables.proofs.Instantiables.add_joins.Statement.{statement}
 use Rattle.instantiables.proofs.Instantiables.add_joins.Tie as tie
@@ -14,9 +14,6 @@ abbrev μ-loop : tie.MeasureT-loop
 
 loop-holds : tie.Need-loop-holds Inv-loop μ-loop
 loop-holds c = search (crossing, needs)
-
-read-requires : tie.Need-read-requires Inv-loop μ-loop
-read-requires c κs = search (crossing, needs)
 
 add-joins-with-requires : tie.Need-add-joins-with-requires Inv-loop μ-loop
 add-joins-with-requires c κs = search (crossing, needs)
@@ -58,7 +55,6 @@ add-joins-spec =
     Inv-loop
     μ-loop
     loop-holds
-    read-requires
     add-joins-with-requires
     enum-known-r
     enum-told

@@ -1,28 +1,25 @@
 -- `add_joins_with` meets its contract. The invariant: the joins of the rows that are left, added to the list, make the whole answer.
-use mathlib.Core.List.{[], _∷_}
-use native.Mathlib.Omega.{arith}
-use borrow.Author.Needs.{needs}
 use Rattle.instantiables.specs.MirrorRows.{partsAt}
+use Rattle.complex_entity.specs.MirrorParts.{partAt}
 use Rattle.complex_entity.specs.MeaningLists.{add, joins, held}
-use Rattle.complex_entity.specs.MirrorParts.{namesOf}
+use lib.ListN.{drop}
+use mathlib.Core.List.{[], _∷_}
+use borrow.Author.Needs.{needs}
 use Rattle.instantiables.proofs.Feeds.{Joining, joining}
 use Rattle.instantiables.proofs.Instantiables.add_joins_with.Statement.{statement}
 use Rattle.instantiables.proofs.Instantiables.add_joins_with.Tie as tie
 
 abbrev Inv-loop : tie.InvT-loop
-Inv-loop rows₀ part others list₀ at₀ left₀ rows list at left = Joining (namesOf part) others rows₀ rows (list .count) at left (held (add (partsAt (list₀ .count) rows₀) (joins (namesOf part ∷ []) (partsAt left₀ others))))
+Inv-loop rows₀ lefts from others list₀ at₀ left₀ rows list at left = Joining (partAt (drop from lefts)) others rows₀ rows (list .count) at left (held (add (partsAt (list₀ .count) rows₀) (joins (partAt (drop from lefts) ∷ []) (partsAt left₀ others))))
 
 abbrev μ-loop : tie.MeasureT-loop
-μ-loop rows₀ part others list₀ at₀ left₀ rows list at left = left
+μ-loop rows₀ lefts from others list₀ at₀ left₀ rows list at left = left
 
 loop-holds : tie.Need-loop-holds Inv-loop μ-loop
 loop-holds c = search (joining, needs)
 
-read-requires : tie.Need-read-requires Inv-loop μ-loop
-read-requires c κs = search (joining, needs)
-
-join-requires : tie.Need-join-requires Inv-loop μ-loop
-join-requires c κs = search (joining, needs)
+join-rows-requires : tie.Need-join-rows-requires Inv-loop μ-loop
+join-rows-requires c κs = search (joining, needs)
 
 enum-known-verdict : tie.Need-enum-known-verdict Inv-loop μ-loop
 enum-known-verdict c = search (joining, needs)
@@ -52,7 +49,7 @@ returns-2 : tie.Need-returns-2 Inv-loop μ-loop
 returns-2 c = search (joining, needs)
 
 add-at : tie.Need-add-at Inv-loop μ-loop
-add-at c = omega (arith, c .before .before .before .before .before .before .before .before .before .before .before .before .loop .inv .inside, c .before .before .before .before .before .before .before .before .before .before .before .before .before .before .before .good .1 .1 .1 .1 .0)
+add-at c = search (joining, needs)
 
 sub-left : tie.Need-sub-left Inv-loop μ-loop
 sub-left c = search (joining, needs)
@@ -76,8 +73,7 @@ add-joins-with-spec =
     Inv-loop
     μ-loop
     loop-holds
-    read-requires
-    join-requires
+    join-rows-requires
     enum-known-verdict
     same-length
     returns

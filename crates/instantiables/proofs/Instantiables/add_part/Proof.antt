@@ -1,7 +1,6 @@
 -- `add_part` meets its contract: the place says what the list with the part is.
 use borrow.Author.Needs.{needs}
 use Rattle.instantiables.proofs.Insertion.{inserting}
-use borrow.Author.Needs.{needs}
 use Rattle.instantiables.proofs.Instantiables.add_part.Statement.{statement}
 use Rattle.instantiables.proofs.Instantiables.add_part.Tie as tie
 
@@ -32,17 +31,23 @@ returns-2 c = search (inserting, needs)
 mul-at : tie.Need-mul-at
 mul-at c = search (inserting, needs)
 
-mul-open-row : tie.Need-mul-open-row
-mul-open-row c = search needs
+add-raise : tie.Need-add-raise
+add-raise c = search (inserting, needs)
 
-open-row-requires : tie.Need-open-row-requires
-open-row-requires c κs = search (inserting, needs)
+mul-raise : tie.Need-mul-raise
+mul-raise c = search needs
+
+sub-raise : tie.Need-sub-raise
+sub-raise c = search (inserting, needs)
+
+raise-requires : tie.Need-raise-requires
+raise-requires c κs = search (inserting, needs)
 
 write-requires : tie.Need-write-requires
 write-requires c κs = search (inserting, needs)
 
-add-t13 : tie.Need-add-t13
-add-t13 c = search needs
+add-t15 : tie.Need-add-t15
+add-t15 c = search needs
 
 same-length-3 : tie.Need-same-length-3
 same-length-3 c = search needs
@@ -63,9 +68,11 @@ add-part-spec =
     same-length-2
     returns-2
     mul-at
-    mul-open-row
-    open-row-requires
+    add-raise
+    mul-raise
+    sub-raise
+    raise-requires
     write-requires
-    add-t13
+    add-t15
     same-length-3
     returns-3)
