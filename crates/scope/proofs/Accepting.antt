@@ -15,7 +15,9 @@ use Rattle.sheet.specs.MeaningSheet.{tagOf, endOf, valueOf}
 use Rattle.sheet.proofs.Choosing.{either, clash, both}
 use Rattle.scope.specs.MeaningScope.{ScopeType, Step, Scope, Path, most-steps}
 use Rattle.scope.specs.MeaningQuery.{nameAt, stop, tagged, kindFor, stepOf, stepAt, wordAt, oneMore, stepsAt, malformed, scopeQuery, pathFrom, pathOf, pathQuery, Question, asked, resolveQuery}
-use Rattle.scope.specs.Claims.{Stand, Whole, Fails, Asks, FailsAsking}
+use Rattle.scope.specs.Held.{rungOf}
+use Rattle.scope.specs.MirrorQuery.{itemOf, wordOut, pastOf}
+use Rattle.scope.specs.Claims.{Stand, Whole, Fails, Asks, FailsAsking, Step-moves, Word-moves}
 use Rattle.scope.specs.Claims.Stand.{here, then}
 use Rattle.scope.specs.Claims.Fails.{bad, surplus, missing}
 use Rattle.scope.specs.Claims.FailsAsking.{unasked, behind}
@@ -49,9 +51,13 @@ step-ends : (q : List ℕ) (at : ℕ) (x : Step) → stepAt q at ≡ some x → 
 unfolding stepAt
 step-ends q at x e = subst (StepEnds (endOf q at)) e (by-kind q at (kindFor (tagOf q at)) (nameAt q at) (by-name q at))
 
+pub step-moves : Step-moves
+unfolding itemOf rungOf pastOf
+step-moves q at = (λ x e. rw e (step-ends q at x e), λ e. rw e refl)
+
 -- ---- the steps that are taken stand there, and no more could be
 
-taken-stand : (k : ℕ) (q : List ℕ) (at : ℕ) → Stand q at (stepsAt k q at .steps) (stepsAt k q at .after)
+pub taken-stand : (k : ℕ) (q : List ℕ) (at : ℕ) → Stand q at (stepsAt k q at .steps) (stepsAt k q at .after)
 unfolding stepsAt
 taken-stand zero q at = here
 taken-stand (suc k) q at = go (taken-stand k q) (stepAt q at) refl
@@ -77,7 +83,7 @@ taken-ended (suc k) q at = go (taken-ended k q) (stepAt q at) refl
     go next none e = inr (omega arith, e)
     go next (some x) e = ended-on k q x (stepsAt k q (stop (x .name)) .steps) (stepsAt k q (stop (x .name)) .after) (next (stop (x .name)))
 
-taken-inside : (k : ℕ) (q : List ℕ) (at : ℕ) → at ≤ length q → stepsAt k q at .after ≤ length q
+pub taken-inside : (k : ℕ) (q : List ℕ) (at : ℕ) → at ≤ length q → stepsAt k q at .after ≤ length q
 unfolding stepsAt
 taken-inside zero q at h = h
 taken-inside (suc k) q at h = go (taken-inside k q) (stepAt q at) (step-lies q at)
@@ -232,6 +238,10 @@ before s e l h k d = omega (arith, h, k, d)
 word-ends : (q : List ℕ) (at : ℕ) (w : Name) → wordAt q at ≡ some w → (stop w ≡ endOf q at) × (endOf q at ≤ length q)
 unfolding wordAt
 word-ends q at w e = subst (NameEnds q at) e (either (NameEnds q at) (eqb (tagOf q at) 0x10) (nameAt q at) none (λ _. by-name q at) (λ _. tt))
+
+pub word-moves : Word-moves
+unfolding wordOut pastOf
+word-moves q at = (λ w e. rw e (word-ends q at w e .0), λ e. rw e refl)
 
 module _ (q : List ℕ) where
   asked-done : (m : Option Name) (a : Question) → wordAt q (stepsAt most-steps q 0 .after) ≡ m → asked q (stepsAt most-steps q 0 .steps) (stepsAt most-steps q 0 .after) m ≡ done a → Asks q (a .scope) (a .word)

@@ -6,7 +6,8 @@ use native.Mathlib.Omega.{arith}
 use borrow.Author.Tests.{eq-eqb, ne-eqb}
 use lib.ListN.{length}
 use Rattle.scope.specs.MeaningScope.{Step}
-use Rattle.scope.specs.MirrorScope.{rungOf, noRung, scope-0, scopeOf, pushedOn, poppedFrom, lastOf}
+use Rattle.scope.specs.Held.{rungOf, noRung, scope-0, scopeOf}
+use Rattle.scope.specs.MirrorScope.{pushedOn, poppedFrom, lastOf}
 use Rattle.scope.specs.declared.Rung.{Rung}
 use Rattle.scope.specs.declared.Scope.{Scope}
 use Rattle.scope.specs.declared.Pushed.the-variants.{Onto, Full}

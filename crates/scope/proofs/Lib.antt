@@ -3,6 +3,7 @@ pub mod Holding
 pub mod Standing
 pub mod Reaching
 pub mod Routes
+pub mod Lent
 pub mod Precedence
 pub mod Beginnings
 pub mod Accepting

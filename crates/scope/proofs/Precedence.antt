@@ -18,7 +18,8 @@ use Rattle.scope.specs.MeaningScope.{Step, placeOf, most-steps, sameStep
 use Rattle.scope.specs.MeaningQuery.{stop, stepAt, Taken, oneMore, stepsAt, scopeQuery, orderOf}
 use Rattle.scope.specs.Told.{toldKind, toldCompared, toldStep, toldScope}
 use Rattle.scope.specs.Promises.{Promise-order}
-use Rattle.scope.specs.MirrorScope.{kindIn, rungOf, noRung, scopeOf, Spans, Fits}
+use Rattle.scope.specs.Held.{kindIn, rungOf, noRung, scopeOf}
+use Rattle.scope.specs.MirrorScope.{Spans, Fits}
 use Rattle.scope.specs.MirrorQuery.{askedScopeOf}
 use Rattle.scope.specs.declared.Rung.{Rung}
 use Rattle.scope.specs.declared.Scope.{Scope}

@@ -2,13 +2,14 @@
 use mathlib.Core.Path.{_≡_, refl, sym, _∙_}
 use Prim.Native.Nat.{ℕ}
 use Rattle.sheet.proofs.Choosing.{clash}
+use Rattle.scope.specs.MeaningScope.{most-steps}
 use Rattle.scope.specs.Told.{toldCompared}
 use Rattle.scope.specs.Promises.{Promise-order}
-use Rattle.scope.specs.Claims.{Names-reflexive, Names-symmetric, Names-transitive, Order-reflexive, Equal-exactly, Greater-exactly, Less-exactly, Told-injective, OrderOnce, Scope-accepts, Scope-refuses, Path-accepts, Path-refuses, Resolve-accepts, Resolve-refuses, Push-appends, Push-refuses, Pop-drops}
+use Rattle.scope.specs.Claims.{Names-reflexive, Names-symmetric, Names-transitive, Order-reflexive, Equal-exactly, Greater-exactly, Less-exactly, Told-injective, OrderOnce, Scope-accepts, Scope-refuses, Path-accepts, Path-refuses, Resolve-accepts, Resolve-refuses, Step-moves, Word-moves, Scope-moves, Push-appends, Push-refuses, Pop-drops}
 use Rattle.scope.specs.declared.Compared.the-variants.{Less, Equal, Greater, Unordered, Refused}
 use Rattle.scope.proofs.Equality.{name-refl, name-sym, name-trans, scope-refl}
 use Rattle.scope.proofs.Beginnings.{equal-same, same-equal, greater-begins, begins-greater, less-begins, begins-less}
-use Rattle.scope.proofs.Accepting.{scope-done, whole-scope, scope-fails, fails-scope, path-done, whole-path, path-fails, fails-path, resolve-done, asks-resolve, resolve-fails, fails-resolve}
+use Rattle.scope.proofs.Accepting.{step-moves, word-moves, taken-stand, scope-done, whole-scope, scope-fails, fails-scope, path-done, whole-path, path-fails, fails-path, resolve-done, asks-resolve, resolve-fails, fails-resolve}
 use Rattle.scope.proofs.Holding.{push-appends, push-refused, pop-drops}
 
 pub names-reflexive : Names-reflexive
@@ -84,6 +85,15 @@ resolve-accepts q a = (resolve-done q a, asks-resolve q a)
 
 pub resolve-refuses : Resolve-refuses
 resolve-refuses q n at = (resolve-fails q n at, λ f. rw (f .0) (fails-resolve q at (f .1)))
+
+pub stepping-moves : Step-moves
+stepping-moves = step-moves
+
+pub wording-moves : Word-moves
+wording-moves = word-moves
+
+pub scoping-moves : Scope-moves
+scoping-moves = taken-stand most-steps
 
 pub pushing-appends : Push-appends
 pushing-appends = push-appends

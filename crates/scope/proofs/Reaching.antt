@@ -15,13 +15,14 @@ use Rattle.sheet.proofs.Choosing.{either, clash, both}
 use Rattle.scope.specs.MeaningScope as meaning
 use Rattle.scope.specs.MeaningScope.{Step, most-steps}
 use Rattle.scope.specs.MeaningQuery.{nameAt, stop, kindFor, stepOf, stepAt, wordAt, stepsAt, scopeQuery, asked, resolveQuery}
-use Rattle.scope.specs.MirrorScope.{rungOf, noRung, scope-0, scopeOf}
-use Rattle.scope.specs.MirrorQuery.{itemOf, wordOut, reachedOf, noScope, askedScopeOf, noName, askedNameOf}
+use Rattle.scope.specs.Held.{rungOf, noRung, scope-0, scopeOf}
+use Rattle.scope.specs.MirrorQuery.{itemOf, wordOut, wordIn, reachedOf, pastOf, front, followedBy, noScope, askedScopeOf, noName, askedNameOf}
 use Rattle.scope.specs.declared.Rung.{Rung}
 use Rattle.scope.specs.declared.Scope.{Scope}
 use Rattle.scope.specs.declared.Item.{Item}
 use Rattle.scope.specs.declared.Item.the-variants.{Found, Nothing}
 use Rattle.scope.specs.declared.Reached.{Reached}
+use Rattle.scope.specs.declared.Followed.{Followed}
 use Rattle.scope.specs.declared.Verdict.the-variants.{Done, Refused}
 use Rattle.scope.specs.declared.AskedScope.{AskedScope}
 use Rattle.scope.specs.declared.AskedName.{AskedName}
@@ -75,57 +76,70 @@ unfolding itemOf
 nobody none o e f = refl
 nobody (some x) o e f = let g : Nothing ≡ Found (rungOf x) = sym f ∙ e in clash (cc)
 
-pub stop-rung : (x : Step) (r : Rung) → rungOf x ≡ r → stop (x .name) ≡ r .stop
+stop-rung : (x : Step) (r : Rung) → rungOf x ≡ r → stop (x .name) ≡ r .stop
 unfolding rungOf
 stop-rung x r k = ap (λ (r : Rung). r .stop) k
 
 module _ (q : List ℕ) (at : ℕ) (o : Item) (e : o ≡ itemOf (stepAt q at)) (r : Rung) (f : o ≡ Found r) where
-  pub found-inside : r .stop ≤ length q
-  found-inside =
+  pub found-inside : (end : ℕ) → end ≡ length q → r .stop ≤ end
+  found-inside end h =
       let b = behind (stepAt q at) o r e f in
       let l : StepLies q (some (b .0)) = subst (StepLies q) (b .1) (step-lies q at) in
       let w = l .within in
       let s = stop-rung (b .0) r (b .2) in
-      omega (arith, w, s)
+      omega (arith, w, s, h)
+
+-- ---- the place after an item
+
+module _ (o : Item) (at : ℕ) where
+  pub past-none : o ≡ Nothing → at ≡ pastOf o at
+  unfolding pastOf
+  past-none e = sym (rw e refl)
+
+  pub past-found : (x : Rung) → o ≡ Found x → x .stop ≡ pastOf o at
+  unfolding pastOf
+  past-found x e = sym (rw e refl)
+
+pub ruleset passing = (past-none, past-found)
 
 -- ---- x, y and w stand one after the other
 
-module _ (q : List ℕ) (n : Rung) (z : n ≡ noRung) (x : Step) (r1 : Rung) (m1 : stepAt q 0 ≡ some x) (k1 : rungOf x ≡ r1) where
-  got-1 : stepAt q (r1 .stop) ≡ none → record { scope = record { count = 1; one = r1; two = n; three = n }; at = r1 .stop } ≡ reachedOf (stepsAt most-steps q 0)
+module _ (q : List ℕ) (at : ℕ) (n : Rung) (z : n ≡ noRung) (x : Step) (r1 : Rung) (m1 : stepAt q at ≡ some x) (k1 : rungOf x ≡ r1) where
+  got-1 : stepAt q (r1 .stop) ≡ none → record { scope = record { count = 1; one = r1; two = n; three = n }; at = r1 .stop } ≡ reachedOf (stepsAt most-steps q at)
   unfolding stepsAt reachedOf scopeOf
   got-1 f = rw (m1, stop-rung x r1 k1, f, z, k1) refl
 
   module _ (y : Step) (r2 : Rung) (m2 : stepAt q (r1 .stop) ≡ some y) (k2 : rungOf y ≡ r2) where
-    got-2 : stepAt q (r2 .stop) ≡ none → record { scope = record { count = 2; one = r1; two = r2; three = n }; at = r2 .stop } ≡ reachedOf (stepsAt most-steps q 0)
+    got-2 : stepAt q (r2 .stop) ≡ none → record { scope = record { count = 2; one = r1; two = r2; three = n }; at = r2 .stop } ≡ reachedOf (stepsAt most-steps q at)
     unfolding stepsAt reachedOf scopeOf
     got-2 f = rw (m1, stop-rung x r1 k1, m2, stop-rung y r2 k2, f, z, k1, k2) refl
 
-    got-3 : (w : Step) (r3 : Rung) → stepAt q (r2 .stop) ≡ some w → rungOf w ≡ r3 → record { scope = record { count = 3; one = r1; two = r2; three = r3 }; at = r3 .stop } ≡ reachedOf (stepsAt most-steps q 0)
+    got-3 : (w : Step) (r3 : Rung) → stepAt q (r2 .stop) ≡ some w → rungOf w ≡ r3 → record { scope = record { count = 3; one = r1; two = r2; three = r3 }; at = r3 .stop } ≡ reachedOf (stepsAt most-steps q at)
     unfolding stepsAt reachedOf scopeOf
     got-3 w r3 m3 k3 = rw (m1, stop-rung x r1 k1, m2, stop-rung y r2 k2, m3, stop-rung w r3 k3, k1, k2, k3) refl
 
-module _ (q : List ℕ) (o1 : Item) (e1 : o1 ≡ itemOf (stepAt q 0)) where
-  pub steps-0 : o1 ≡ Nothing → (s : Scope) → s ≡ scope-0 → record { scope = s; at = 0 } ≡ reachedOf (stepsAt most-steps q 0)
+module _ (q : List ℕ) (at : ℕ) (o1 : Item) (e1 : o1 ≡ itemOf (stepAt q at)) where
+  pub steps-0 : o1 ≡ Nothing → (s : Scope) → s ≡ scope-0 → record { scope = s; at = at } ≡ reachedOf (stepsAt most-steps q at)
   unfolding stepsAt reachedOf scopeOf
-  steps-0 f s k = rw (nobody (stepAt q 0) o1 e1 f, k) refl
+  steps-0 f s k = rw (nobody (stepAt q at) o1 e1 f, k) refl
 
   module _ (n : Rung) (z : n ≡ noRung) (r1 : Rung) (f1 : o1 ≡ Found r1) (o2 : Item) (e2 : o2 ≡ itemOf (stepAt q (r1 .stop))) where
-    pub steps-1 : o2 ≡ Nothing → record { scope = record { count = 1; one = r1; two = n; three = n }; at = r1 .stop } ≡ reachedOf (stepsAt most-steps q 0)
-    steps-1 f = let b = behind (stepAt q 0) o1 r1 e1 f1 in got-1 q n z (b .0) r1 (b .1) (b .2) (nobody (stepAt q (r1 .stop)) o2 e2 f)
+    pub steps-1 : o2 ≡ Nothing → record { scope = record { count = 1; one = r1; two = n; three = n }; at = r1 .stop } ≡ reachedOf (stepsAt most-steps q at)
+    steps-1 f = let b = behind (stepAt q at) o1 r1 e1 f1 in got-1 q at n z (b .0) r1 (b .1) (b .2) (nobody (stepAt q (r1 .stop)) o2 e2 f)
 
     module _ (r2 : Rung) (f2 : o2 ≡ Found r2) (o3 : Item) (e3 : o3 ≡ itemOf (stepAt q (r2 .stop))) where
-      pub steps-2 : o3 ≡ Nothing → record { scope = record { count = 2; one = r1; two = r2; three = n }; at = r2 .stop } ≡ reachedOf (stepsAt most-steps q 0)
+      pub steps-2 : o3 ≡ Nothing → record { scope = record { count = 2; one = r1; two = r2; three = n }; at = r2 .stop } ≡ reachedOf (stepsAt most-steps q at)
       steps-2 f =
-          let b = behind (stepAt q 0) o1 r1 e1 f1 in
+          let b = behind (stepAt q at) o1 r1 e1 f1 in
           let c = behind (stepAt q (r1 .stop)) o2 r2 e2 f2 in
-          got-2 q n z (b .0) r1 (b .1) (b .2) (c .0) r2 (c .1) (c .2) (nobody (stepAt q (r2 .stop)) o3 e3 f)
+          got-2 q at n z (b .0) r1 (b .1) (b .2) (c .0) r2 (c .1) (c .2) (nobody (stepAt q (r2 .stop)) o3 e3 f)
 
-      pub steps-3 : (r3 : Rung) → o3 ≡ Found r3 → record { scope = record { count = 3; one = r1; two = r2; three = r3 }; at = r3 .stop } ≡ reachedOf (stepsAt most-steps q 0)
+      pub steps-3 : (r3 : Rung) → o3 ≡ Found r3 → record { scope = record { count = 3; one = r1; two = r2; three = r3 }; at = r3 .stop } ≡ reachedOf (stepsAt most-steps q at)
       steps-3 r3 f3 =
-          let b = behind (stepAt q 0) o1 r1 e1 f1 in
+          let b = behind (stepAt q at) o1 r1 e1 f1 in
           let c = behind (stepAt q (r1 .stop)) o2 r2 e2 f2 in
           let d = behind (stepAt q (r2 .stop)) o3 r3 e3 f3 in
-          got-3 q n z (b .0) r1 (b .1) (b .2) (c .0) r2 (c .1) (c .2) (d .0) r3 (d .1) (d .2)
+          got-3 q at n z (b .0) r1 (b .1) (b .2) (c .0) r2 (c .1) (c .2) (d .0) r3 (d .1) (d .2)
 
 pub ruleset stepping = (steps-0, steps-1, steps-2, steps-3, found-inside)
 
@@ -139,11 +153,11 @@ module _ (w : Refusal) (p : ℕ) (e : w ≡ record { number = 15; place = p }) (
   name-zeros = rw (e, k) refl
 
 module _ (q : List ℕ) (t : Reached) (h : t ≡ reachedOf (stepsAt most-steps q 0)) where
-  pub at-after : stepsAt most-steps q 0 .after ≡ t .at
+  at-after : stepsAt most-steps q 0 .after ≡ t .at
   unfolding reachedOf
   at-after = ap (λ (r : Reached). r .at) (sym h)
 
-  pub scope-after : scopeOf (stepsAt most-steps q 0 .steps) ≡ t .scope
+  scope-after : scopeOf (stepsAt most-steps q 0 .steps) ≡ t .scope
   unfolding reachedOf
   scope-after = ap (λ (r : Reached). r .scope) (sym h)
 
@@ -170,22 +184,42 @@ word-some (some x) o r e f =
     let k : record { kind = noRung .kind; start = x .at; stop = stop x } ≡ r = cc in
     (x, refl, ap (λ (r : Rung). r .start) k, ap (λ (r : Rung). r .stop) k)
 
-module _ (q : List ℕ) (t : Reached) (h : t ≡ reachedOf (stepsAt most-steps q 0)) (o : Item) (e : o ≡ wordOut (wordAt q (t .at))) where
-  pub ask-none : o ≡ Nothing → (r : AskedName) → r ≡ noName 15 (t .at) → r ≡ askedNameOf (resolveQuery q)
-  unfolding resolveQuery asked askedNameOf
-  ask-none f r k = k ∙ rw (at-after q t h, word-none (wordAt q (t .at)) o e f) refl
+-- what a query begins with, taken apart
+module _ (f : List ℕ → ℕ → Item) (q : List ℕ) (t : Followed) (h : t ≡ followedBy f q) where
+  pub scope-first : t .scope ≡ scopeOf (front q .steps)
+  unfolding followedBy
+  scope-first = ap (λ (r : Followed). r .scope) h
 
-  module _ (x : Rung) (f : o ≡ Found x) where
-    pub ask-more : (x .stop ≡ length q → ⊥) → (r : AskedName) → r ≡ noName 15 (x .stop) → r ≡ askedNameOf (resolveQuery q)
-    unfolding resolveQuery asked askedNameOf
-    ask-more n r k =
-        let w = word-some (wordAt q (t .at)) o x e f in
-        k ∙ rw (at-after q t h, w .1, w .3, ne-eqb (x .stop) (length q) n) refl
+  pub next-behind : t .next ≡ f q (front q .after)
+  unfolding followedBy
+  next-behind = ap (λ (r : Followed). r .next) h
 
-    pub ask-whole : x .stop ≡ length q → record { verdict = Done; scope = t .scope; start = x .start; stop = x .stop } ≡ askedNameOf (resolveQuery q)
+  pub at-behind : t .at ≡ pastOf (f q (front q .after)) (front q .after)
+  unfolding followedBy
+  at-behind = ap (λ (r : Followed). r .at) h
+
+module _ (q : List ℕ) (t : Followed) (h : t ≡ followedBy wordIn q) where
+  pub ask-none : t .next ≡ Nothing → (r : AskedName) → r ≡ noName 15 (t .at) → r ≡ askedNameOf (resolveQuery q)
+  unfolding resolveQuery asked askedNameOf wordOut pastOf
+  ask-none f r k =
+      let m = word-none (wordAt q (front q .after)) (t .next) (next-behind wordIn q t h) f in
+      let a : t .at ≡ front q .after = at-behind wordIn q t h ∙ rw m refl in
+      k ∙ rw (a, m) refl
+
+  module _ (x : Rung) (f : t .next ≡ Found x) where
+    named : (w : Name) × (wordAt q (front q .after) ≡ some w) × (w .at ≡ x .start) × (stop w ≡ x .stop)
+    named = word-some (wordAt q (front q .after)) (t .next) x (next-behind wordIn q t h) f
+
+    at-stop : t .at ≡ x .stop
+    unfolding wordOut pastOf
+    at-stop = at-behind wordIn q t h ∙ rw (named .1, named .3) refl
+
+    pub ask-more : (t .at ≡ length q → ⊥) → (r : AskedName) → r ≡ noName 15 (t .at) → r ≡ askedNameOf (resolveQuery q)
     unfolding resolveQuery asked askedNameOf
-    ask-whole n =
-        let w = word-some (wordAt q (t .at)) o x e f in
-        rw (at-after q t h, w .1, w .3, eq-eqb (x .stop) (length q) n, w .3, w .2, scope-after q t h) refl
+    ask-more n r k = k ∙ (ap (noName 15) at-stop ∙ sym (rw (named .1, named .3, ne-eqb (x .stop) (length q) (λ e. n (at-stop ∙ e))) refl))
+
+    pub ask-whole : t .at ≡ length q → record { verdict = Done; scope = t .scope; start = x .start; stop = x .stop } ≡ askedNameOf (resolveQuery q)
+    unfolding resolveQuery asked askedNameOf
+    ask-whole n = sym (rw (named .1, named .3, eq-eqb (x .stop) (length q) (sym at-stop ∙ n), named .3, named .2, ← scope-first wordIn q t h) refl)
 
 pub ruleset reaching = (scope-zeros, name-zeros, scope-whole, scope-more, ask-none, ask-more, ask-whole)

@@ -13,20 +13,20 @@ use Rattle.sheet.proofs.Choosing.{clash}
 use Rattle.scope.specs.MeaningScope as meaning
 use Rattle.scope.specs.MeaningScope.{Step, most-steps}
 use Rattle.scope.specs.MeaningQuery.{nameAt, stop, kindFor, stepAt, Taken, oneMore, stepsAt, pathFrom, pathOf, pathQuery}
-use Rattle.scope.specs.MirrorScope.{rungOf, noRung, scope-0, scopeOf, pathIn, poppedFrom, lastOf}
-use Rattle.scope.specs.MirrorQuery.{itemOf, reachedOf, noPath, askedPathOf}
+use Rattle.scope.specs.Held.{rungOf, noRung, scope-0, scopeOf, pathIn}
+use Rattle.scope.specs.MirrorScope.{poppedFrom, lastOf}
+use Rattle.scope.specs.MirrorQuery.{itemOf, stepIn, pastOf, front, followedBy, noPath, askedPathOf}
 use Rattle.scope.specs.declared.Rung.{Rung}
 use Rattle.scope.specs.declared.Scope.{Scope}
 use Rattle.scope.specs.declared.Popped.{Popped}
 use Rattle.scope.specs.declared.Popped.the-variants.{Outer, Root}
-use Rattle.scope.specs.declared.Item.{Item}
 use Rattle.scope.specs.declared.Item.the-variants.{Found, Nothing}
-use Rattle.scope.specs.declared.Reached.{Reached}
+use Rattle.scope.specs.declared.Followed.{Followed}
 use Rattle.scope.specs.declared.AskedPath.{AskedPath}
 use Rattle.scope.specs.declared.Verdict.the-variants.{Done, Refused}
 use Rattle.scope.proofs.Holding.{pop-refused}
 use Rattle.scope.proofs.Standing.{no-name}
-use Rattle.scope.proofs.Reaching.{behind, nobody, stop-rung, at-after, scope-after}
+use Rattle.scope.proofs.Reaching.{behind, nobody, scope-first, next-behind, at-behind}
 
 -- ---- one step more: what the fourth adds to three
 
@@ -45,6 +45,11 @@ one-step q at (some x) = refl
 steps-by : (q : List ℕ) (at : ℕ) (long less : ℕ → Taken) → ((b : ℕ) → long b ≡ thenOne (less b) (stepAt q (less b .after))) → (m : Option Step) → stepAt q at ≡ m → oneMore m at long ≡ thenOne (oneMore m at less) (stepAt q (oneMore m at less .after))
 steps-by q at long less h none e = rw e refl
 steps-by q at long less h (some x) e = let b = stop (x .name) in ap (λ (t : Taken). record { steps = x ∷ t .steps; after = t .after }) (h b) ∙ in-front x (less b) (stepAt q (less b .after))
+
+after-one : (t : Taken) (m : Option Step) → thenOne t m .after ≡ pastOf (itemOf m) (t .after)
+unfolding itemOf pastOf rungOf
+after-one t none = refl
+after-one t (some x) = refl
 
 steps-more : (k : ℕ) (q : List ℕ) (at : ℕ) → stepsAt (suc k) q at ≡ thenOne (stepsAt k q at) (stepAt q (stepsAt k q at .after))
 unfolding stepsAt
@@ -105,47 +110,44 @@ last-asked (x ∷ l) h u k e =
 pub path-zeros : (w : Refusal) (p : ℕ) → w ≡ record { number = 15; place = p } → (s : Scope) → s ≡ scope-0 → (n : Rung) → n ≡ noRung → _≡_ {A = AskedPath} (record { verdict = Refused w; path = record { scope = s; item = n } }) (noPath 15 p)
 path-zeros w p d s e n f = rw (d, e, f) refl
 
-module _ (q : List ℕ) (t : Reached) (h : t ≡ reachedOf (stepsAt most-steps q 0)) where
-  four-same : stepAt q (t .at) ≡ none → stepsAt (suc most-steps) q 0 ≡ stepsAt most-steps q 0
-  four-same e = steps-more most-steps q 0 ∙ rw (at-after q t h, e) refl
+module _ (q : List ℕ) (t : Followed) (h : t ≡ followedBy stepIn q) where
+  abbrev fourth : Option Step
+  fourth = stepAt q (front q .after)
+
+  next-is : t .next ≡ itemOf fourth
+  next-is = next-behind stepIn q t h
+
+  at-four : stepsAt (suc most-steps) q 0 .after ≡ t .at
+  at-four = ap (λ (u : Taken). u .after) (steps-more most-steps q 0) ∙ (after-one (front q) fourth ∙ sym (at-behind stepIn q t h))
+
+  -- a field that is no step, or one too many
+  pub path-more : (t .at ≡ length q → ⊥) → (r : AskedPath) → r ≡ noPath 15 (t .at) → r ≡ askedPathOf (pathQuery q)
+  unfolding pathQuery askedPathOf
+  path-more d r k = k ∙ sym (rw (at-four, ne-eqb (t .at) (length q) d) refl)
 
   module _ (w : t .at ≡ length q) where
-    whole : pathQuery q ≡ pathOf (stepsAt most-steps q 0 .steps) (length q)
+    whole : pathQuery q ≡ pathOf (thenOne (front q) fourth .steps) (length q)
     unfolding pathQuery
-    whole = rw (four-same (rw w (none-at-end q)), at-after q t h ∙ w, eq-eqb (length q) (length q) refl) refl
+    whole = rw (at-four, eq-eqb (t .at) (length q) w, steps-more most-steps q 0) refl
 
-    module _ (o : Popped) (e : o ≡ poppedFrom (t .scope)) where
+    pub path-four : (x : Rung) → t .next ≡ Found x → record { verdict = Done; path = record { scope = t .scope; item = x } } ≡ askedPathOf (pathQuery q)
+    unfolding askedPathOf pathIn
+    path-four x f =
+        let b = behind fourth (t .next) x next-is f in
+        sym (rw (whole, b .1, from-last (front q .steps) (b .0) (length q), b .2, scope-first stepIn q t h) refl)
+
+    module _ (f : t .next ≡ Nothing) (o : Popped) (e : o ≡ poppedFrom (t .scope)) where
+      fewer : pathQuery q ≡ pathOf (front q .steps) (length q)
+      fewer = whole ∙ rw (nobody fourth (t .next) next-is f) refl
+
+      taken : poppedFrom (scopeOf (front q .steps)) ≡ o
+      taken = rw (← scope-first stepIn q t h) (sym e)
+
       pub path-none : o ≡ Root → (r : AskedPath) → r ≡ noPath 15 (t .at) → r ≡ askedPathOf (pathQuery q)
       unfolding pathOf askedPathOf
-      path-none f r k =
-          let l : stepsAt most-steps q 0 .steps ≡ [] = root-only (stepsAt most-steps q 0 .steps) (few-steps most-steps q 0) (rw (scope-after q t h) (sym e ∙ f)) in
-          k ∙ sym (rw (whole, l, ← w) refl)
+      path-none k r z = z ∙ sym (rw (fewer, root-only (front q .steps) (few-steps most-steps q 0) (taken ∙ k), ← w) refl)
 
       pub path-last : (u : Scope) → o ≡ Outer u → (r : Rung) → r ≡ lastOf (t .scope) → record { verdict = Done; path = record { scope = u; item = r } } ≡ askedPathOf (pathQuery q)
-      path-last u f r k = rw (k, whole, ← scope-after q t h) (last-asked (stepsAt most-steps q 0 .steps) (few-steps most-steps q 0) u (rw (scope-after q t h) (sym e ∙ f)) (length q))
+      path-last u k r z = rw (z, fewer, scope-first stepIn q t h) (last-asked (front q .steps) (few-steps most-steps q 0) u (taken ∙ k) (length q))
 
-  module _ (d : t .at ≡ length q → ⊥) (o : Item) (e : o ≡ itemOf (stepAt q (t .at))) where
-    pub path-bad : o ≡ Nothing → (r : AskedPath) → r ≡ noPath 15 (t .at) → r ≡ askedPathOf (pathQuery q)
-    unfolding pathQuery askedPathOf
-    path-bad f r k = k ∙ sym (rw (four-same (nobody (stepAt q (t .at)) o e f), at-after q t h, ne-eqb (t .at) (length q) d) refl)
-
-    module _ (x : Rung) (f : o ≡ Found x) where
-      -- three steps and a fourth
-      fourth : (y : Step) → stepAt q (t .at) ≡ some y → stepsAt (suc most-steps) q 0 ≡ record { steps = stepsAt most-steps q 0 .steps ++ (y ∷ []); after = stop (y .name) }
-      fourth y m = steps-more most-steps q 0 ∙ rw (at-after q t h, m) refl
-
-      four : (y : Step) → stepAt q (t .at) ≡ some y → rungOf y ≡ x → x .stop ≡ length q → record { verdict = Done; path = record { scope = t .scope; item = x } } ≡ askedPathOf (pathQuery q)
-      unfolding pathQuery askedPathOf pathIn
-      four y m k s = sym (rw (fourth y m, stop-rung y x k, eq-eqb (x .stop) (length q) s, from-last (stepsAt most-steps q 0 .steps) y (length q), scope-after q t h, k) refl)
-
-      pub path-four : x .stop ≡ length q → record { verdict = Done; path = record { scope = t .scope; item = x } } ≡ askedPathOf (pathQuery q)
-      path-four s = let b = behind (stepAt q (t .at)) o x e f in four (b .0) (b .1) (b .2) s
-
-      over : (y : Step) → stepAt q (t .at) ≡ some y → rungOf y ≡ x → (x .stop ≡ length q → ⊥) → noPath 15 (x .stop) ≡ askedPathOf (pathQuery q)
-      unfolding pathQuery askedPathOf
-      over y m k s = sym (rw (fourth y m, stop-rung y x k, ne-eqb (x .stop) (length q) s) refl)
-
-      pub path-more : (x .stop ≡ length q → ⊥) → (r : AskedPath) → r ≡ noPath 15 (x .stop) → r ≡ askedPathOf (pathQuery q)
-      path-more s r k = let b = behind (stepAt q (t .at)) o x e f in k ∙ over (b .0) (b .1) (b .2) s
-
-pub ruleset routing = (path-zeros, path-none, path-last, path-bad, path-four, path-more)
+pub ruleset routing = (path-zeros, path-more, path-four, path-none, path-last)

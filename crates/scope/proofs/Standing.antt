@@ -19,7 +19,7 @@ use Rattle.sheet.proofs.Deciding.{value-order, value-in}
 use Rattle.scope.specs.MeaningScope as meaning
 use Rattle.scope.specs.MeaningScope.{tagFor}
 use Rattle.scope.specs.MeaningQuery.{nameAt, stop, tagged, kindFor, stepOf, stepAt, wordAt}
-use Rattle.scope.specs.MirrorScope.{kindIn, rungOf, noRung}
+use Rattle.scope.specs.Held.{kindIn, rungOf, noRung}
 use Rattle.scope.specs.MirrorQuery.{taggedOf, itemOf, wordOut}
 use Rattle.scope.specs.declared.ScopeType.{ScopeType}
 use Rattle.scope.specs.declared.Tagged.{Tagged}
@@ -88,10 +88,13 @@ module _ (q : List ℕ) (at : ℕ) where
   pub name-ends : leb (endOf q at) (length q) ≡ true → at + 3 + length (valueOf q at) ≡ endOf q at
   name-ends e = let l = leb-true (endOf q at) (length q) e in let n : length (valueOf q at) ≡ sizeOf q at = simp (length-take, length-drop) (omega arith) in rw n refl
 
-  module _ (h : Header) (w : h ≡ fieldAt q at (length q)) where
+  module _ (end : ℕ) (l : end ≡ length q) (h : Header) (w : h ≡ fieldAt q at end) where
+    told : fieldAt q at (length q) ≡ h
+    told = rw (← l) (sym w)
+
     passed : h ≡ Passes → nameAt q at ≡ none
     unfolding nameAt
-    passed e = let s : Says Passes = subst Says (sym w ∙ e) says in rw s refl
+    passed e = let s : Says Passes = subst Says (told ∙ e) says in rw s refl
 
     pub step-passes : h ≡ Passes → Nothing ≡ itemOf (stepAt q at)
     step-passes e = no-step (passed e)
@@ -102,7 +105,7 @@ module _ (q : List ℕ) (at : ℕ) where
 
     module _ (t a b : ℕ) (e : h ≡ Field t a b) where
       here : Says (Field t a b)
-      here = subst Says (sym w ∙ e) says
+      here = subst Says (told ∙ e) says
 
       value-is : take (b - a) (drop a q) ≡ valueOf q at
       value-is = let s = here in let n : b - a ≡ sizeOf q at = omega (arith, s .1, s .2) in rw (n, s .1) refl
@@ -149,9 +152,9 @@ module _ (q : List ℕ) (at : ℕ) where
         word-found j o = sym (rw (← here .0, eq-eqb t 0x10 j, named o, ends, here .1) refl)
 
       pub field-order : a ≤ b
-      field-order = value-order q at (length q) h w t a b e
+      field-order = value-order q at end h w t a b e
 
       pub field-inside : b ≤ length q
-      field-inside = value-in q at (length q) h w t a b e (le-refl (length q))
+      field-inside = value-in q at end h w t a b e (rw l (le-refl (length q)))
 
 pub ruleset standing = (step-passes, step-other, step-wrong, step-found, word-passes, word-other, word-wrong, word-found, field-order, field-inside)

@@ -3,7 +3,7 @@ use Prim.Native.Nat.{ℕ, _<_, _≤_}
 use mathlib.Core.Path.{_≡_}
 use mathlib.Core.Logic.{_↔_}
 use mathlib.Core.List.{List, [], _∷_, _++_}
-use mathlib.Core.Option.{none, some}
+use mathlib.Core.Option.{Option, none, some}
 use mathlib.Core.Bool.{true}
 use lib.ListN.{length}
 use Rattle.refusal.specs.MeaningAnswer.{done, refused}
@@ -11,12 +11,15 @@ use Rattle.sheet.specs.MeaningReading.{Reading}
 use Rattle.sheet.specs.MeaningName.{Name}
 use Rattle.sheet.specs.MeaningSheet.{endOf}
 use Rattle.scope.specs.MeaningNames.{sameName}
-use Rattle.scope.specs.MeaningScope.{Step, Scope, Path, sameScope, compared}
+use Rattle.scope.specs.MeaningScope.{Step, Scope, most-steps, Path, sameScope, compared}
 use Rattle.scope.specs.MeaningScope.Comparison.{less, equal, greater}
-use Rattle.scope.specs.MeaningQuery.{stepAt, wordAt, scopeQuery, pathQuery, Question, resolveQuery}
+use Rattle.scope.specs.MeaningQuery.{stepAt, wordAt, stepsAt, scopeQuery, pathQuery, Question, resolveQuery}
 use Rattle.scope.specs.Told.{toldCompared}
 use Rattle.scope.specs.Promises.{Promise-order}
-use Rattle.scope.specs.MirrorScope.{rungOf, scopeOf, pushedOn, poppedFrom}
+use Rattle.scope.specs.Held.{rungOf, scopeOf}
+use Rattle.scope.specs.MirrorScope.{pushedOn, poppedFrom}
+use Rattle.scope.specs.MirrorQuery.{stepIn, wordIn, pastOf}
+use Rattle.scope.specs.declared.Item.{Item}
 use Rattle.scope.specs.declared.Compared.{Compared}
 use Rattle.scope.specs.declared.Pushed.the-variants.{Onto, Full}
 use Rattle.scope.specs.declared.Popped.the-variants.{Outer}
@@ -112,6 +115,21 @@ Resolve-accepts = (q : List ℕ) (a : Question) → (resolveQuery q ≡ done a) 
 
 abbrev pub Resolve-refuses : Type 0
 Resolve-refuses = (q : List ℕ) (n at : ℕ) → (resolveQuery q ≡ refused n at) ↔ ((n ≡ 15) × FailsAsking q at)
+
+-- ---- "the reader's place moves on past each accepted field", and stays where there is none
+
+abbrev pub Moves : {A : Type 0} → (accepted : List ℕ → ℕ → Option A) → (read : List ℕ → ℕ → Item) → Type 0
+Moves {A} accepted read = (q : List ℕ) (at : ℕ) → ((x : A) → accepted q at ≡ some x → pastOf (read q at) at ≡ endOf q at) × (accepted q at ≡ none → pastOf (read q at) at ≡ at)
+
+abbrev pub Step-moves : Type 0
+Step-moves = Moves stepAt stepIn
+
+abbrev pub Word-moves : Type 0
+Word-moves = Moves wordAt wordIn
+
+-- past a whole scope: each of its steps stands where the one before ends
+abbrev pub Scope-moves : Type 0
+Scope-moves = (q : List ℕ) (at : ℕ) → Stand q at (stepsAt most-steps q at .steps) (stepsAt most-steps q at .after)
 
 -- ---- scopes as the code holds them: a step more goes behind the others, a full scope takes none, and popping takes the last away
 

@@ -1,17 +1,22 @@
 -- How what a query asks for stands in the code's structs.
-use Prim.Native.Nat.{ℕ}
+use Prim.Native.Nat.{ℕ, _≤_}
+use mathlib.Core.Path.{_≡_}
+use mathlib.Core.List.{List}
 use mathlib.Core.Option.{Option, none, some}
+use lib.ListN.{length}
 use Rattle.refusal.specs.MeaningAnswer.{Answer, done, refused}
 use Rattle.sheet.specs.MeaningName.{Name}
 use Rattle.scope.specs.MeaningScope as meaning
-use Rattle.scope.specs.MeaningScope.{Step}
-use Rattle.scope.specs.MeaningQuery.{Taken, Question, stop}
-use Rattle.scope.specs.MirrorScope.{kindIn, rungOf, noRung, scope-0, scopeOf, pathIn}
+use Rattle.scope.specs.MeaningScope.{Step, most-steps}
+use Rattle.scope.specs.MeaningQuery.{stop, stepAt, wordAt, Taken, stepsAt, Question}
+use Rattle.scope.specs.Held.{kindIn, rungOf, noRung, scope-0, scopeOf, pathIn}
 use Rattle.scope.specs.declared.Tagged.{Tagged}
 use Rattle.scope.specs.declared.Tagged.the-variants.{Kind, Other}
 use Rattle.scope.specs.declared.Item.{Item}
 use Rattle.scope.specs.declared.Item.the-variants.{Found, Nothing}
 use Rattle.scope.specs.declared.Reached.{Reached}
+use Rattle.scope.specs.declared.Place.{Place}
+use Rattle.scope.specs.declared.Followed.{Followed}
 use Rattle.scope.specs.declared.Verdict.the-variants.{Done, Refused}
 use Rattle.scope.specs.declared.AskedScope.{AskedScope}
 use Rattle.scope.specs.declared.AskedPath.{AskedPath}
@@ -30,8 +35,40 @@ unfoldable pub wordOut : Option Name → Item
 wordOut none = Nothing
 wordOut (some x) = Found (record { kind = noRung .kind; start = x .at; stop = stop x })
 
+-- the step and the name that stand at a place, as the code holds them
+abbrev pub stepIn : List ℕ → ℕ → Item
+stepIn q at = itemOf (stepAt q at)
+
+abbrev pub wordIn : List ℕ → ℕ → Item
+wordIn q at = wordOut (wordAt q at)
+
 unfoldable pub reachedOf : Taken → Reached
 reachedOf t = record { scope = scopeOf (t .steps); at = t .after }
+
+-- ---- readers
+
+-- a place of a query, and where the query ends
+abbrev pub InQuery : List ℕ → (at end : ℕ) → Type 0
+InQuery q at end = (at ≤ end) × (end ≡ length q)
+
+-- the place after what stands at `at`: the same where nothing does
+unfoldable pub pastOf : Item → ℕ → ℕ
+pastOf Nothing at = at
+pastOf (Found x) at = x .stop
+
+-- a reader's place that has moved on: the query still ends where it did
+abbrev pub movedTo : ℕ → Place → Place
+movedTo at p = record { at = at; end = p .end }
+
+abbrev pub movedPast : Item → Place → Place
+movedPast x p = movedTo (pastOf x (p .at)) p
+
+-- the steps that a query begins with, and what stands behind them
+abbrev pub front : List ℕ → Taken
+front q = stepsAt most-steps q 0
+
+unfoldable pub followedBy : (List ℕ → ℕ → Item) → List ℕ → Followed
+followedBy f q = record { scope = scopeOf (front q .steps); next = f q (front q .after); at = pastOf (f q (front q .after)) (front q .after) }
 
 -- ---- the answers: a verdict, and beside it what was asked for, zeros where it is refused
 

@@ -8,11 +8,12 @@ ghost use Rattle.sheet.specs.MeaningReading.Reading.{rust};
 ghost use Rattle.sheet.specs.Told.{toldReading};
 ghost use Rattle.scope.specs.MeaningNames.{sameBytes, sameName};
 ghost use Rattle.scope.specs.MeaningScope.{placeOf, most-steps, sameStep, starts, compared};
-ghost use Rattle.scope.specs.MeaningQuery.{kindFor, stepAt, wordAt, stepsAt, scopeQuery, pathQuery, resolveQuery};
+ghost use Rattle.scope.specs.MeaningQuery.{kindFor, stepsAt, scopeQuery, pathQuery, resolveQuery};
 ghost use Rattle.scope.specs.Told.{toldKind, toldCompared, toldStep, toldScope};
 ghost use Rattle.scope.specs.Promises.{Promise-order};
-ghost use Rattle.scope.specs.MirrorScope.{noRung, scope-0, Spans, Fits, pushedOn, poppedFrom, lastOf};
-ghost use Rattle.scope.specs.MirrorQuery.{taggedOf, itemOf, wordOut, reachedOf, noScope, askedScopeOf, noPath, askedPathOf, noName, askedNameOf};
+ghost use Rattle.scope.specs.Held.{noRung, scope-0, scopeOf};
+ghost use Rattle.scope.specs.MirrorScope.{Spans, Fits, pushedOn, poppedFrom, lastOf};
+ghost use Rattle.scope.specs.MirrorQuery.{taggedOf, stepIn, wordIn, reachedOf, InQuery, pastOf, movedTo, movedPast, followedBy, noScope, askedScopeOf, noPath, askedPathOf, noName, askedNameOf};
 ghost use Rattle.refusal.specs.MeaningAnswer.{done};
 use refusal::Refusal;
 use sheet::Header;
@@ -75,9 +76,22 @@ pub enum Item {
     Nothing,
 }
 
-// The steps that a query begins with, and the place after them.
+// The steps that stand from a place on, and the place after them.
 pub struct Reached {
     pub scope: Scope,
+    pub at: usize,
+}
+
+// How far a reader of a query has come, and where the query ends.
+pub struct Place {
+    pub at: usize,
+    pub end: usize,
+}
+
+// The scope that a query begins with, what stands behind it, and the place after both.
+pub struct Followed {
+    pub scope: Scope,
+    pub next: Item,
     pub at: usize,
 }
 
@@ -305,11 +319,11 @@ fn same_bytes(a: &[u8], b: &[u8]) -> bool
 // ---- Queries. All malformed ones are refused with 15.
 
 // The step that stands at a place.
-fn step_at(q: &[u8], at: usize) -> Item
-    requires { ⌜ at ≤ length (now q) ⌝ }
-    ensures { λ r. ⌜ r ≡ itemOf (stepAt (now (q .entry)) at) ⌝ }
+fn step_at(q: &[u8], at: usize, end: usize) -> Item
+    requires { ⌜ InQuery (now q) at end ⌝ }
+    ensures { λ r. ⌜ r ≡ stepIn (now (q .entry)) at ⌝ }
 {
-    let Header::Field { tag, start, stop } = field_at(q, at, q.len()) else {
+    let Header::Field { tag, start, stop } = field_at(q, at, end) else {
         return Item::Nothing;
     };
     let Tagged::Kind(kind) = ScopeType::tagged(tag) else {
@@ -322,11 +336,11 @@ fn step_at(q: &[u8], at: usize) -> Item
 }
 
 // The field 10 that stands at a place.
-fn word_at(q: &[u8], at: usize) -> Item
-    requires { ⌜ at ≤ length (now q) ⌝ }
-    ensures { λ r. ⌜ r ≡ wordOut (wordAt (now (q .entry)) at) ⌝ }
+fn word_at(q: &[u8], at: usize, end: usize) -> Item
+    requires { ⌜ InQuery (now q) at end ⌝ }
+    ensures { λ r. ⌜ r ≡ wordIn (now (q .entry)) at ⌝ }
 {
-    let Header::Field { tag, start, stop } = field_at(q, at, q.len()) else {
+    let Header::Field { tag, start, stop } = field_at(q, at, end) else {
         return Item::Nothing;
     };
     if tag != 0x10 {
@@ -342,16 +356,27 @@ fn word_at(q: &[u8], at: usize) -> Item
     Item::Nothing
 }
 
-// The steps that a query begins with, at most three: one after the other without a loop, as the struct holds them.
-fn read_steps(q: &[u8]) -> Reached
-    ensures { λ r. ⌜ (r ≡ reachedOf (stepsAt most-steps (now (q .entry)) 0)) × (r .at ≤ length (now (q .entry))) ⌝ }
+// The place after what stands at `at`: the same where nothing does.
+fn past(item: Item, at: usize) -> usize
+    ensures { λ r. ⌜ r ≡ pastOf item at ⌝ }
+{
+    let Item::Found(rung) = item else {
+        return at;
+    };
+    rung.stop
+}
+
+// The steps that stand from a place on, at most three: one after the other without a loop, as the struct holds them.
+fn read_steps(q: &[u8], at: usize, end: usize) -> Reached
+    requires { ⌜ InQuery (now q) at end ⌝ }
+    ensures { λ r. ⌜ r ≡ reachedOf (stepsAt most-steps (now (q .entry)) at) ⌝ }
 {
     let none = Rung::none();
     let root = Scope::root();
-    let Item::Found(one) = step_at(q, 0) else {
-        return Reached { scope: root, at: 0 };
+    let Item::Found(one) = step_at(q, at, end) else {
+        return Reached { scope: root, at };
     };
-    let Item::Found(two) = step_at(q, one.stop) else {
+    let Item::Found(two) = step_at(q, one.stop, end) else {
         return Reached {
             scope: Scope {
                 count: 1,
@@ -362,7 +387,7 @@ fn read_steps(q: &[u8]) -> Reached
             at: one.stop,
         };
     };
-    let Item::Found(three) = step_at(q, two.stop) else {
+    let Item::Found(three) = step_at(q, two.stop, end) else {
         return Reached {
             scope: Scope {
                 count: 2,
@@ -384,6 +409,74 @@ fn read_steps(q: &[u8]) -> Reached
     }
 }
 
+// ---- Readers. The place is lent: it moves on past each accepted field, and stays where there is none.
+
+// The steps at the place, at most three.
+fn next_scope(q: &[u8], place: &mut Place) -> Scope
+    requires { ⌜ InQuery (now q) (now place .at) (now place .end) ⌝ }
+    ensures { λ r. ⌜ (r ≡ scopeOf (stepsAt most-steps (now (q .entry)) (now (place .entry) .at) .steps)) × (now (place .exit) ≡ movedTo (stepsAt most-steps (now (q .entry)) (now (place .entry) .at) .after) (now (place .entry))) ⌝ }
+{
+    let reached = read_steps(q, place.at, place.end);
+    place.at = reached.at;
+    reached.scope
+}
+
+// The step at the place.
+fn next_step(q: &[u8], place: &mut Place) -> Item
+    requires { ⌜ InQuery (now q) (now place .at) (now place .end) ⌝ }
+    ensures { λ r. ⌜ (r ≡ stepIn (now (q .entry)) (now (place .entry) .at)) × (now (place .exit) ≡ movedPast r (now (place .entry))) ⌝ }
+{
+    let item = step_at(q, place.at, place.end);
+    place.at = past(item, place.at);
+    item
+}
+
+// The field 10 at the place.
+fn next_word(q: &[u8], place: &mut Place) -> Item
+    requires { ⌜ InQuery (now q) (now place .at) (now place .end) ⌝ }
+    ensures { λ r. ⌜ (r ≡ wordIn (now (q .entry)) (now (place .entry) .at)) × (now (place .exit) ≡ movedPast r (now (place .entry))) ⌝ }
+{
+    let item = word_at(q, place.at, place.end);
+    place.at = past(item, place.at);
+    item
+}
+
+// A path's query from its front on: a scope and a step.
+fn scope_and_step(q: &[u8]) -> Followed
+    ensures { λ r. ⌜ r ≡ followedBy stepIn (now (q .entry)) ⌝ }
+{
+    let mut place = Place {
+        at: 0,
+        end: q.len(),
+    };
+    let scope = next_scope(q, &mut place);
+    let next = next_step(q, &mut place);
+    Followed {
+        scope,
+        next,
+        at: place.at,
+    }
+}
+
+// A `resolve` query from its front on: a scope and a name.
+fn scope_and_word(q: &[u8]) -> Followed
+    ensures { λ r. ⌜ r ≡ followedBy wordIn (now (q .entry)) ⌝ }
+{
+    let mut place = Place {
+        at: 0,
+        end: q.len(),
+    };
+    let scope = next_scope(q, &mut place);
+    let next = next_word(q, &mut place);
+    Followed {
+        scope,
+        next,
+        at: place.at,
+    }
+}
+
+// ---- What queries ask for.
+
 fn scope_refused(place: usize) -> AskedScope
     ensures { λ r. ⌜ r ≡ noScope 15 place ⌝ }
 {
@@ -397,7 +490,7 @@ fn scope_refused(place: usize) -> AskedScope
 pub fn read_scope(query: &[u8]) -> AskedScope
     ensures { λ r. ⌜ r ≡ askedScopeOf (scopeQuery (now (query .entry))) ⌝ }
 {
-    let t = read_steps(query);
+    let t = read_steps(query, 0, query.len());
     if t.at == query.len() {
         let scope = t.scope;
         return AskedScope {
@@ -419,33 +512,31 @@ fn path_refused(place: usize) -> AskedPath
     }
 }
 
-// A path query: a scope's steps and one more, or the last of fewer is the item.
+// A path query: what stands behind three steps is the item, or else the last step is.
 pub fn read_path(query: &[u8]) -> AskedPath
     ensures { λ r. ⌜ r ≡ askedPathOf (pathQuery (now (query .entry))) ⌝ }
 {
-    let t = read_steps(query);
+    let t = scope_and_step(query);
     let at = t.at;
     let scope = t.scope;
-    if at == query.len() {
-        let Popped::Outer(outer) = scope.popped() else {
-            return path_refused(at);
-        };
-        let item = scope.last();
-        return AskedPath {
-            verdict: Verdict::Done,
-            path: Path { scope: outer, item },
-        };
-    }
-    let Item::Found(item) = step_at(query, at) else {
+    let next = t.next;
+    if at != query.len() {
         return path_refused(at);
-    };
-    if item.stop == query.len() {
+    }
+    if let Item::Found(item) = next {
         return AskedPath {
             verdict: Verdict::Done,
             path: Path { scope, item },
         };
     }
-    path_refused(item.stop)
+    let Popped::Outer(outer) = scope.popped() else {
+        return path_refused(at);
+    };
+    let item = scope.last();
+    AskedPath {
+        verdict: Verdict::Done,
+        path: Path { scope: outer, item },
+    }
 }
 
 fn name_refused(place: usize) -> AskedName
@@ -463,12 +554,13 @@ fn name_refused(place: usize) -> AskedName
 pub fn read_resolve(query: &[u8]) -> AskedName
     ensures { λ r. ⌜ r ≡ askedNameOf (resolveQuery (now (query .entry))) ⌝ }
 {
-    let t = read_steps(query);
+    let t = scope_and_word(query);
     let at = t.at;
-    let Item::Found(word) = word_at(query, at) else {
+    let next = t.next;
+    let Item::Found(word) = next else {
         return name_refused(at);
     };
-    if word.stop == query.len() {
+    if at == query.len() {
         let scope = t.scope;
         return AskedName {
             verdict: Verdict::Done,
@@ -477,7 +569,7 @@ pub fn read_resolve(query: &[u8]) -> AskedName
             stop: word.stop,
         };
     }
-    name_refused(word.stop)
+    name_refused(at)
 }
 
 // ---- The partial order.

@@ -4,14 +4,11 @@ use Rattle.scope.proofs.read_resolve.Statement.{statement}
 use Rattle.scope.proofs.read_resolve.Tie as tie
 use Rattle.scope.proofs.Reaching.{reaching}
 
-read-steps-requires : tie.Need-read-steps-requires
-read-steps-requires c κs = search (reaching, needs)
+scope-and-word-requires : tie.Need-scope-and-word-requires
+scope-and-word-requires c κs = search (reaching, needs)
 
-word-at-requires : tie.Need-word-at-requires
-word-at-requires c κs = search (reaching, needs)
-
-enum-known-word : tie.Need-enum-known-word
-enum-known-word c = search (reaching, needs)
+enum-known-next : tie.Need-enum-known-next
+enum-known-next c = search (reaching, needs)
 
 enum-told : tie.Need-enum-told
 enum-told c = search (reaching, needs)
@@ -35,9 +32,8 @@ pub read-resolve-spec : {M : Type 1} → statement M
 read-resolve-spec =
     tie.close
     (tie.spec
-    read-steps-requires
-    word-at-requires
-    enum-known-word
+    scope-and-word-requires
+    enum-known-next
     enum-told
     name-refused-requires
     returns
