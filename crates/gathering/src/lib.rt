@@ -8,7 +8,7 @@ ghost use Rattle.sheet.specs.Told.{toldReading};
 ghost use Rattle.schemas.specs.MeaningTree.{treeAt, treeOf};
 ghost use Rattle.schemas.specs.MeaningSchemas.{nameOf, namesOf, termsOf, exprOf, markOf, entityOf};
 ghost use Rattle.namespace.specs.MeaningOrder.{schemasIn};
-ghost use Rattle.namespace.specs.MirrorNamespace.{schemaScope};
+ghost use Rattle.namespace.specs.MirrorNamespace.{schemaScope, HomeOf};
 ghost use Rattle.namespace.specs.Told.{toldFound};
 ghost use Rattle.gathering.specs.MeaningGathering.{through, ruleOf};
 ghost use Rattle.gathering.specs.MirrorGathering.{size, sizes, level, levels, Bounded, numberMeant, ownNumber, streams};
@@ -20,8 +20,10 @@ use lookup::Sought;
 use lookup::name_of;
 use merging::is_owner;
 use namespace::Found;
-use namespace::first_of;
-use namespace::meant;
+use namespace::Home;
+use namespace::first_in;
+use namespace::home_of;
+use namespace::meant_in;
 use refusal::Refusal;
 use scope::ScopeType;
 use sheet::Header;
@@ -108,26 +110,42 @@ fn rule_at(reading: Reading, sheet: &[u8], at: usize, end: usize) -> Header
 }
 
 // The number of what the name between two places means in the schema of the name `scope`.
-fn number_at(reading: Reading, sheet: &[u8], scope: &[u8], start: usize, stop: usize) -> Found
+fn number_at(
+    reading: Reading,
+    sheet: &[u8],
+    scope: &[u8],
+    home: Home,
+    start: usize,
+    stop: usize,
+) -> Found
     requires { ⌜ Within (now sheet) start stop ⌝ }
+    requires { ⌜ HomeOf (toldReading reading) (now sheet) (now scope) home ⌝ }
     ensures { λ r. ⌜ toldFound r ≡ numberMeant (toldReading reading) (schemasIn (now (sheet .entry))) (schemaScope (now (scope .entry))) (wordAt (now (sheet .entry)) start stop) ⌝ }
 {
-    let Sought::At(number) = meant(reading, sheet, scope, &sheet[start..stop]) else {
+    let Sought::At(number) = meant_in(reading, sheet, scope, home, &sheet[start..stop]) else {
         return Found::Refused(Refusal::at(6, start));
     };
     Found::Number(number as u16)
 }
 
 // The number of an entity itself, which is not resolved.
-fn own_number(reading: Reading, sheet: &[u8], scope: &[u8], at: usize, end: usize) -> u16
+fn own_number(
+    reading: Reading,
+    sheet: &[u8],
+    scope: &[u8],
+    home: Home,
+    at: usize,
+    end: usize,
+) -> u16
     requires { ⌜ Within (now sheet) at end ⌝ }
+    requires { ⌜ HomeOf (toldReading reading) (now sheet) (now scope) home ⌝ }
     ensures { λ r. ⌜ r ≡ ownNumber (toldReading reading) (schemasIn (now (sheet .entry))) (schemaNamed (now (scope .entry))) (entityOf 0 (treeAt (now (sheet .entry)) at end)) ⌝ }
 {
     let name = name_of(sheet, at, end);
     let start = name.start;
     let stop = name.stop;
     let kind = ScopeType::Entity;
-    let Sought::At(number) = first_of(reading, sheet, scope, kind, &sheet[start..stop]) else {
+    let Sought::At(number) = first_in(reading, sheet, scope, home, kind, &sheet[start..stop]) else {
         return 0;
     };
     number as u16
@@ -138,6 +156,7 @@ fn read_node(
     reading: Reading,
     sheet: &[u8],
     scope: &[u8],
+    home: Home,
     tag: u8,
     start: usize,
     stop: usize,
@@ -147,10 +166,11 @@ fn read_node(
 ) -> Filled
     requires { ⌜ Within (now sheet) start stop × (0x50 ≤ tag) × (tag ≤ 0x53) ⌝ }
     requires { ⌜ Deep (size (exprIn (now sheet) tag start stop)) (2 * level (exprIn (now sheet) tag start stop)) used depth (now stream) ⌝ }
+    requires { ⌜ HomeOf (toldReading reading) (now sheet) (now scope) home ⌝ }
     ensures { λ r. ⌜ Appends (exprNumbers (toldReading reading) (schemasIn (now (sheet .entry))) (now (scope .entry)) (exprIn (now (sheet .entry)) tag start stop)) (toldFilled r) used (now (stream .entry)) (now (stream .exit)) ⌝ }
 {
     if tag == 0x50 {
-        match number_at(reading, sheet, scope, start, stop) {
+        match number_at(reading, sheet, scope, home, start, stop) {
             Found::Number(number) => {
                 let next = put_node(stream, used, REFERENCE, number, NODE as u16);
                 return Filled::To(next);
@@ -161,7 +181,17 @@ fn read_node(
         }
     }
     let body = put_node(stream, used, (tag - 0x50) as u16, 0, 0);
-    let answer = read_terms(reading, sheet, scope, start, stop, stream, body, depth - 1);
+    let answer = read_terms(
+        reading,
+        sheet,
+        scope,
+        home,
+        start,
+        stop,
+        stream,
+        body,
+        depth - 1,
+    );
     let Filled::To(next) = answer else {
         return answer;
     };
@@ -174,6 +204,7 @@ fn read_terms(
     reading: Reading,
     sheet: &[u8],
     scope: &[u8],
+    home: Home,
     at: usize,
     end: usize,
     stream: &mut [u16],
@@ -182,6 +213,7 @@ fn read_terms(
 ) -> Filled
     requires { ⌜ Within (now sheet) at end ⌝ }
     requires { ⌜ Deep (sizes (termsOf (treeAt (now sheet) at end))) (2 * levels (termsOf (treeAt (now sheet) at end)) + 1) used depth (now stream) ⌝ }
+    requires { ⌜ HomeOf (toldReading reading) (now sheet) (now scope) home ⌝ }
     ensures { λ r. ⌜ Appends (termsNumbers (toldReading reading) (schemasIn (now (sheet .entry))) (now (scope .entry)) (termsOf (treeAt (now (sheet .entry)) at end))) (toldFilled r) used (now (stream .entry)) (now (stream .exit)) ⌝ }
 {
     let mut n = used;
@@ -194,6 +226,7 @@ fn read_terms(
             reading,
             sheet,
             scope,
+            home,
             tag,
             start,
             stop,
@@ -214,6 +247,7 @@ fn put_record(
     reading: Reading,
     sheet: &[u8],
     scope: &[u8],
+    home: Home,
     owner: u16,
     tag: u8,
     start: usize,
@@ -223,10 +257,22 @@ fn put_record(
 ) -> Filled
     requires { ⌜ Within (now sheet) start stop × (0x50 ≤ tag) × (tag ≤ 0x53) ⌝ }
     requires { ⌜ Room (size (exprIn (now sheet) tag start stop)) (level (exprIn (now sheet) tag start stop)) used (now stream) ⌝ }
+    requires { ⌜ HomeOf (toldReading reading) (now sheet) (now scope) home ⌝ }
     ensures { λ r. ⌜ Kept (recordKept (toldReading reading) (schemasIn (now (sheet .entry))) (now (scope .entry)) owner (exprIn (now (sheet .entry)) tag start stop)) (toldFilled r) used (now (stream .entry)) (now (stream .exit)) ⌝ }
 {
     let body = used + 1;
-    let answer = read_node(reading, sheet, scope, tag, start, stop, stream, body, DEPTH);
+    let answer = read_node(
+        reading,
+        sheet,
+        scope,
+        home,
+        tag,
+        start,
+        stop,
+        stream,
+        body,
+        DEPTH,
+    );
     let Filled::To(next) = answer else {
         return answer;
     };
@@ -239,6 +285,7 @@ fn rule_of(
     reading: Reading,
     sheet: &[u8],
     scope: &[u8],
+    home: Home,
     place: usize,
     at: usize,
     end: usize,
@@ -247,13 +294,25 @@ fn rule_of(
 ) -> Filled
     requires { ⌜ Within (now sheet) at end ⌝ }
     requires { ⌜ Room (itemSize Pass.Rules (treeAt (now sheet) at end)) (itemLevel Pass.Rules (treeAt (now sheet) at end)) used (now stream) ⌝ }
+    requires { ⌜ HomeOf (toldReading reading) (now sheet) (now scope) home ⌝ }
     ensures { λ r. ⌜ Kept (itemKept (toldReading reading) (schemasIn (now (sheet .entry))) Pass.Rules (schemaNamed (now (scope .entry))) place (treeAt (now (sheet .entry)) at end)) (toldFilled r) used (now (stream .entry)) (now (stream .exit)) ⌝ }
 {
     let Header::Field { tag, start, stop } = rule_at(reading, sheet, at, end) else {
         return Filled::To(used);
     };
-    let owner = own_number(reading, sheet, scope, at, end);
-    let answer = put_record(reading, sheet, scope, owner, tag, start, stop, stream, used);
+    let owner = own_number(reading, sheet, scope, home, at, end);
+    let answer = put_record(
+        reading,
+        sheet,
+        scope,
+        home,
+        owner,
+        tag,
+        start,
+        stop,
+        stream,
+        used,
+    );
     let Filled::To(next) = answer else {
         return answer;
     };
@@ -268,6 +327,7 @@ fn constraint_of(
     reading: Reading,
     sheet: &[u8],
     scope: &[u8],
+    home: Home,
     at: usize,
     end: usize,
     stream: &mut [u16],
@@ -275,6 +335,7 @@ fn constraint_of(
 ) -> Filled
     requires { ⌜ Within (now sheet) at end ⌝ }
     requires { ⌜ Room (itemSize Pass.Constraints (treeAt (now sheet) at end)) (itemLevel Pass.Constraints (treeAt (now sheet) at end)) used (now stream) ⌝ }
+    requires { ⌜ HomeOf (toldReading reading) (now sheet) (now scope) home ⌝ }
     ensures { λ r. ⌜ Kept (itemKept (toldReading reading) (schemasIn (now (sheet .entry))) Pass.Constraints (schemaNamed (now (scope .entry))) 0 (treeAt (now (sheet .entry)) at end)) (toldFilled r) used (now (stream .entry)) (now (stream .exit)) ⌝ }
 {
     let Header::Field { tag, start, stop } = expr_at(sheet, at, end) else {
@@ -283,11 +344,12 @@ fn constraint_of(
     let name = name_of(sheet, at, end);
     let from = name.start;
     let to = name.stop;
-    match number_at(reading, sheet, scope, from, to) {
+    match number_at(reading, sheet, scope, home, from, to) {
         Found::Number(owner) => put_record(
             reading,
             sheet,
             scope,
+            home,
             owner,
             tag,
             start,
@@ -313,6 +375,7 @@ fn put_pairs(
     reading: Reading,
     sheet: &[u8],
     scope: &[u8],
+    home: Home,
     own: u16,
     at: usize,
     end: usize,
@@ -321,6 +384,7 @@ fn put_pairs(
 ) -> Filled
     requires { ⌜ Within (now sheet) at end ⌝ }
     requires { ⌜ Room (length (namesOf (treeAt (now sheet) at end))) 0 used (now stream) ⌝ }
+    requires { ⌜ HomeOf (toldReading reading) (now sheet) (now scope) home ⌝ }
     ensures { λ r. ⌜ Kept (through (superKept (toldReading reading) (schemasIn (now (sheet .entry))) (schemaScope (now (scope .entry))) own) (namesOf (treeAt (now (sheet .entry)) at end))) (toldFilled r) used (now (stream .entry)) (now (stream .exit)) ⌝ }
 {
     let mut n = used;
@@ -334,7 +398,7 @@ fn put_pairs(
         else {
             return Filled::To(n);
         };
-        match number_at(reading, sheet, scope, start, stop) {
+        match number_at(reading, sheet, scope, home, start, stop) {
             Found::Number(owner) => {
                 n = put_pair(stream, n, owner, own);
                 from = stop;
@@ -351,6 +415,7 @@ fn subtypes_of(
     reading: Reading,
     sheet: &[u8],
     scope: &[u8],
+    home: Home,
     at: usize,
     end: usize,
     stream: &mut [u16],
@@ -358,6 +423,7 @@ fn subtypes_of(
 ) -> Filled
     requires { ⌜ Within (now sheet) at end ⌝ }
     requires { ⌜ Room (itemSize Pass.Subtypes (treeAt (now sheet) at end)) (itemLevel Pass.Subtypes (treeAt (now sheet) at end)) used (now stream) ⌝ }
+    requires { ⌜ HomeOf (toldReading reading) (now sheet) (now scope) home ⌝ }
     ensures { λ r. ⌜ Kept (itemKept (toldReading reading) (schemasIn (now (sheet .entry))) Pass.Subtypes (schemaNamed (now (scope .entry))) 0 (treeAt (now (sheet .entry)) at end)) (toldFilled r) used (now (stream .entry)) (now (stream .exit)) ⌝ }
 {
     let Header::Field {
@@ -368,8 +434,8 @@ fn subtypes_of(
     else {
         return Filled::To(used);
     };
-    let own = own_number(reading, sheet, scope, at, end);
-    put_pairs(reading, sheet, scope, own, start, stop, stream, used)
+    let own = own_number(reading, sheet, scope, home, at, end);
+    put_pairs(reading, sheet, scope, home, own, start, stop, stream, used)
 }
 
 // The tag of the fields that a pass goes over.
@@ -388,6 +454,7 @@ fn item(
     reading: Reading,
     sheet: &[u8],
     scope: &[u8],
+    home: Home,
     pass: Pass,
     place: usize,
     at: usize,
@@ -397,12 +464,13 @@ fn item(
 ) -> Filled
     requires { ⌜ Within (now sheet) at end ⌝ }
     requires { ⌜ Room (itemSize pass (treeAt (now sheet) at end)) (itemLevel pass (treeAt (now sheet) at end)) used (now stream) ⌝ }
+    requires { ⌜ HomeOf (toldReading reading) (now sheet) (now scope) home ⌝ }
     ensures { λ r. ⌜ Kept (itemKept (toldReading reading) (schemasIn (now (sheet .entry))) pass (schemaNamed (now (scope .entry))) place (treeAt (now (sheet .entry)) at end)) (toldFilled r) used (now (stream .entry)) (now (stream .exit)) ⌝ }
 {
     match pass {
-        Pass::Rules => rule_of(reading, sheet, scope, place, at, end, stream, used),
-        Pass::Constraints => constraint_of(reading, sheet, scope, at, end, stream, used),
-        Pass::Subtypes => subtypes_of(reading, sheet, scope, at, end, stream, used),
+        Pass::Rules => rule_of(reading, sheet, scope, home, place, at, end, stream, used),
+        Pass::Constraints => constraint_of(reading, sheet, scope, home, at, end, stream, used),
+        Pass::Subtypes => subtypes_of(reading, sheet, scope, home, at, end, stream, used),
     }
 }
 
@@ -411,6 +479,7 @@ fn items(
     reading: Reading,
     sheet: &[u8],
     scope: &[u8],
+    home: Home,
     pass: Pass,
     at: usize,
     end: usize,
@@ -419,6 +488,7 @@ fn items(
 ) -> Filled
     requires { ⌜ Within (now sheet) at end ⌝ }
     requires { ⌜ Room (itemsSize pass (treeAt (now sheet) at end)) (itemsLevel pass (treeAt (now sheet) at end)) used (now stream) ⌝ }
+    requires { ⌜ HomeOf (toldReading reading) (now sheet) (now scope) home ⌝ }
     ensures { λ r. ⌜ Kept (itemsKept (toldReading reading) (schemasIn (now (sheet .entry))) pass (now (scope .entry)) (treeAt (now (sheet .entry)) at end)) (toldFilled r) used (now (stream .entry)) (now (stream .exit)) ⌝ }
 {
     let tag = tag_of(pass);
@@ -434,7 +504,18 @@ fn items(
             return Filled::To(n);
         };
         let place = start - 3;
-        let answer = item(reading, sheet, scope, pass, place, start, stop, stream, n);
+        let answer = item(
+            reading,
+            sheet,
+            scope,
+            home,
+            pass,
+            place,
+            start,
+            stop,
+            stream,
+            n,
+        );
         let Filled::To(next) = answer else {
             return answer;
         };
@@ -460,10 +541,12 @@ fn in_schema(
     let name = name_of(sheet, at, end);
     let start = name.start;
     let stop = name.stop;
+    let home = home_of(reading, sheet, &sheet[start..stop]);
     items(
         reading,
         sheet,
         &sheet[start..stop],
+        home,
         pass,
         at,
         end,

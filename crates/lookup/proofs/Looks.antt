@@ -1,4 +1,4 @@
--- A law for each way through the loops over the fields with a tag: by name, how many, and by number.
+-- A law for each way through the loops over the fields with a tag: by name and by number.
 use mathlib.Core.Path.{_≡_, refl, sym, ap, _∙_}
 use mathlib.Core.List.{List, [], _∷_}
 use mathlib.Core.Bool.{Bool, true, false}
@@ -6,6 +6,7 @@ use Prim.Native.Nat.{ℕ, zero, suc, _+_, _-_, _≤_}
 use native.Mathlib.Omega.{arith}
 use lib.ListN.{length}
 use Rattle.sheet.specs.MeaningReading.{Reading}
+use Rattle.sheet.specs.MeaningName.{Name}
 use Rattle.sheet.specs.MirrorField.{fieldAt}
 use Rattle.sheet.specs.declared.Header.{Header}
 use Rattle.sheet.specs.declared.Header.the-variants.{Field, Passes}
@@ -17,79 +18,60 @@ use Rattle.lookup.specs.MirrorLookup.{itsName, itself, lookIn, Picks}
 use Rattle.lookup.specs.declared.Sought.{Sought}
 use Rattle.lookup.specs.declared.Sought.the-variants.{At, Past}
 use Rattle.lookup.specs.declared.Place as place
-use Rattle.lookup.proofs.Fields.{none-left, one-here, other-here, field-in, field-on, field-order, field-there}
+use Rattle.lookup.proofs.Fields.{none-left, one-here, other-here, field-in, field-order, field-there, each-length}
 
 -- ---- by name
 
-pub record Looking (rd : Reading) (s w : List ℕ) (tag e n from : ℕ) (r : Sought) : Type 0 where
+pub record Looking (rd : Reading) (s w : List ℕ) (tag e past n from : ℕ) (r : Sought) : Type 0 where
   pub inside : from ≤ e
   pub fitsIn : e ≤ length s
-  pub small : n ≤ 65535 + from
+  pub small : past ≤ 65535
+  pub left : past ≡ n + length (each tag itself (treeAt s from e))
   pub nested : nests tag ≡ true
   pub rest : lookIn rd w (each tag itsName (treeAt s from e)) n ≡ r
 
-pub look-start : (rd : Reading) (s w : List ℕ) (tag e n at : ℕ) → at ≤ e → e ≤ length s → nests tag ≡ true → n ≤ 65535 → Looking rd s w tag e n at (lookIn rd w (each tag itsName (treeAt s at e)) n)
-look-start rd s w tag e n at i j k l = record { inside = i; fitsIn = j; small = omega arith; nested = k; rest = refl }
+pub look-start : (rd : Reading) (s w : List ℕ) (tag e past n at : ℕ) → at ≤ e → e ≤ length s → nests tag ≡ true → past ≤ 65535 → past ≡ n + length (each tag itself (treeAt s at e))
+    → Looking rd s w tag e past n at (lookIn rd w (each tag itsName (treeAt s at e)) n)
+look-start rd s w tag e past n at i j k l m = record { inside = i; fitsIn = j; small = l; left = m; nested = k; rest = refl }
 
-module _ (rd : Reading) (s w : List ℕ) (tag e n from : ℕ) (r : Sought) (f : Looking rd s w tag e n from r) (h : Header) (y : h ≡ fieldAt s from e) where
-  pub look-none : h ≡ Passes → Past n ≡ r
-  unfolding lookIn
-  look-none q = sym (rw (none-left s from e h y tag itsName q) refl) ∙ f .rest
+no-more : (rd : Reading) (w : List ℕ) (xs : List Name) (n : ℕ) → length xs ≡ 0 → Past n ≡ lookIn rd w xs n
+unfolding lookIn
+no-more rd w [] n q = refl
+no-more rd w (x ∷ xs) n q = absurd (let z : ⊥ = omega arith in z)
 
-  module _ (t a b : ℕ) (q : h ≡ Field t a b) where
-    go-on : (m : ℕ) → m ≤ n + 1 → lookIn rd w (each tag itsName (treeAt s b e)) m ≡ r → Looking rd s w tag e m b r
-    go-on m l z = let i = field-on s from e h y t a b q in record { inside = field-in s from e h y t a b q; fitsIn = f .fitsIn; small = omega (arith, f .small); nested = f .nested; rest = z }
+module _ (rd : Reading) (s w : List ℕ) (tag e past n from : ℕ) (r : Sought) (f : Looking rd s w tag e past n from r) where
+  -- all of them were met
+  pub look-end : past ≤ n → Past n ≡ r
+  look-end q = no-more rd w (each tag itsName (treeAt s from e)) n (let z = each-length tag itsName itself (treeAt s from e) in omega (arith, f .left)) ∙ f .rest
 
-    pub look-skip : (t ≡ tag → ⊥) → Looking rd s w tag e n b r
-    look-skip d = go-on n (omega arith) (sym (rw (other-here s from e h y t a b q itsName tag d) refl) ∙ f .rest)
+  module _ (h : Header) (y : h ≡ fieldAt s from e) where
+    pub look-none : h ≡ Passes → Past n ≡ r
+    unfolding lookIn
+    look-none q = sym (rw (none-left s from e h y tag itsName q) refl) ∙ f .rest
 
-    here : t ≡ tag → lookIn rd w (nameOf (treeAt s a b) ∷ each tag itsName (treeAt s b e)) n ≡ r
-    unfolding itsName
-    here k = sym (ap (λ l. lookIn rd w l n) (one-here s from e h y t a b q itsName tag k (f .nested))) ∙ f .rest
+    module _ (t a b : ℕ) (q : h ≡ Field t a b) where
+      go-on : (m : ℕ) → past ≡ m + length (each tag itself (treeAt s b e)) → lookIn rd w (each tag itsName (treeAt s b e)) m ≡ r → Looking rd s w tag e past m b r
+      go-on m l z = record { inside = field-in s from e h y t a b q; fitsIn = f .fitsIn; small = f .small; left = l; nested = f .nested; rest = z }
 
-    module _ (k : t ≡ tag) (x : Bool) (z : x ≡ sameName rd (nameOf (treeAt s a b) .bytes) w) where
-      pub look-found : x ≡ true → At n ≡ r
-      unfolding lookIn
-      look-found o = sym (rw (sym z ∙ o) refl) ∙ here k
+      pub look-skip : (t ≡ tag → ⊥) → Looking rd s w tag e past n b r
+      look-skip d = go-on n (f .left ∙ rw (other-here s from e h y t a b q itself tag d) refl) (sym (rw (other-here s from e h y t a b q itsName tag d) refl) ∙ f .rest)
 
-      pub look-next : x ≡ false → Looking rd s w tag e (n + 1) b r
-      unfolding lookIn
-      look-next o = go-on (n + 1) (omega arith) (sym (rw (sym z ∙ o) refl) ∙ here k)
+      here : t ≡ tag → lookIn rd w (nameOf (treeAt s a b) ∷ each tag itsName (treeAt s b e)) n ≡ r
+      unfolding itsName
+      here k = sym (ap (λ l. lookIn rd w l n) (one-here s from e h y t a b q itsName tag k (f .nested))) ∙ f .rest
 
-pub ruleset looking = (look-start, look-none, look-skip, look-found, look-next)
+      module _ (k : t ≡ tag) (x : Bool) (z : x ≡ sameName rd (nameOf (treeAt s a b) .bytes) w) where
+        pub look-found : x ≡ true → At n ≡ r
+        unfolding lookIn
+        look-found o = sym (rw (sym z ∙ o) refl) ∙ here k
 
--- ---- how many
+        pub look-next : x ≡ false → Looking rd s w tag e past (n + 1) b r
+        unfolding lookIn
+        look-next o =
+            let l : length (each tag itself (treeAt s from e)) ≡ suc (length (each tag itself (treeAt s b e))) = ap length (one-here s from e h y t a b q itself tag k (f .nested)) in
+            go-on (n + 1) (omega (arith, f .left)) (sym (rw (sym z ∙ o) refl) ∙ here k)
 
-pub record Counting (s : List ℕ) (tag e n from r : ℕ) : Type 0 where
-  pub inside : from ≤ e
-  pub fitsIn : e ≤ length s
-  pub small : n ≤ from
-  pub nested : nests tag ≡ true
-  pub rest : n + length (each tag itself (treeAt s from e)) ≡ r
-
-pub count-start : (s : List ℕ) (tag e at : ℕ) → at ≤ e → e ≤ length s → nests tag ≡ true → Counting s tag e 0 at (length (each tag itself (treeAt s at e)))
-count-start s tag e at i j k = record { inside = i; fitsIn = j; small = omega arith; nested = k; rest = omega arith }
-
-module _ (s : List ℕ) (tag e n from r : ℕ) (f : Counting s tag e n from r) (h : Header) (y : h ≡ fieldAt s from e) where
-  pub count-most : h ≡ Passes → n ≤ e
-  count-most q = omega (arith, f .small, f .inside)
-
-  pub count-none : h ≡ Passes → n ≡ r
-  count-none q = let l : length (each tag itself (treeAt s from e)) ≡ 0 = ap length (none-left s from e h y tag itself q) in omega (arith, f .rest)
-
-  module _ (t a b : ℕ) (q : h ≡ Field t a b) where
-    count-on : (m : ℕ) → m ≤ n + 1 → m + length (each tag itself (treeAt s b e)) ≡ r → Counting s tag e m b r
-    count-on m l z = let i = field-on s from e h y t a b q in record { inside = field-in s from e h y t a b q; fitsIn = f .fitsIn; small = omega (arith, f .small); nested = f .nested; rest = z }
-
-    pub count-skip : (t ≡ tag → ⊥) → Counting s tag e n b r
-    count-skip d = count-on n (omega arith) (sym (rw (other-here s from e h y t a b q itself tag d) refl) ∙ f .rest)
-
-    pub count-next : t ≡ tag → Counting s tag e (n + 1) b r
-    count-next k =
-        let l : length (each tag itself (treeAt s from e)) ≡ suc (length (each tag itself (treeAt s b e))) = ap length (one-here s from e h y t a b q itself tag k (f .nested)) in
-        count-on (n + 1) (omega arith) (omega (arith, f .rest))
-
-pub ruleset counting = (count-start, count-most, count-none, count-skip, count-next)
+pub ruleset looking = (look-start, look-end, look-none, look-skip, look-found, look-next)
 
 -- ---- by number: what picks from the fields left picks from them all
 

@@ -1,7 +1,7 @@
-// Walks over the fields of a value: the name it begins with, and its fields with one tag, by name, by number and how many.
+// Walks over the fields of a value: the name it begins with, and its fields with one tag, by name and by number.
 ghost use mathlib.Core.Path.{_≡_};
 ghost use mathlib.Core.Bool.{true};
-ghost use Prim.Native.Nat.{_≤_};
+ghost use Prim.Native.Nat.{_≤_, _+_};
 ghost use lib.ListN.{length};
 ghost use Rattle.sheet.specs.Told.{toldReading};
 ghost use Rattle.forest.specs.MeaningPlaces.{nests};
@@ -57,7 +57,7 @@ pub fn has_name(reading: Reading, s: &[u8], at: usize, end: usize, name: &[u8]) 
     same_name(reading, &s[start..stop], name)
 }
 
-// The number of the first field with the tag and an equal name, counted from `first`, or the number after the last.
+// The number of the first field with the tag and an equal name, counted from `first`, or the number after the last, which is known: the walk ends there.
 pub fn look(
     reading: Reading,
     s: &[u8],
@@ -66,13 +66,14 @@ pub fn look(
     tag: u8,
     name: &[u8],
     first: usize,
+    past: usize,
 ) -> Sought
-    requires { ⌜ (at ≤ end) × (end ≤ length (now s)) × (nests tag ≡ true) × (first ≤ 65535) ⌝ }
+    requires { ⌜ (at ≤ end) × (end ≤ length (now s)) × (nests tag ≡ true) × (past ≤ 65535) × (past ≡ first + length (each tag itself (treeAt (now s) at end))) ⌝ }
     ensures { λ r. ⌜ r ≡ lookIn (toldReading reading) (now (name .entry)) (each tag itsName (treeAt (now (s .entry)) at end)) first ⌝ }
 {
     let mut n = first;
     let mut from = at;
-    loop {
+    while n < past {
         let Header::Field {
             tag: t,
             start,
@@ -91,31 +92,7 @@ pub fn look(
             from = stop;
         }
     }
-}
-
-// How many fields have the tag.
-pub fn count(s: &[u8], at: usize, end: usize, tag: u8) -> usize
-    requires { ⌜ (at ≤ end) × (end ≤ length (now s)) × (nests tag ≡ true) ⌝ }
-    ensures { λ r. ⌜ (r ≡ length (each tag itself (treeAt (now (s .entry)) at end))) × (r ≤ end) ⌝ }
-{
-    let mut n: usize = 0;
-    let mut from = at;
-    loop {
-        let Header::Field {
-            tag: t,
-            start: _,
-            stop,
-        } = field_at(s, from, end)
-        else {
-            return n;
-        };
-        if t == tag {
-            n += 1;
-            from = stop;
-        } else {
-            from = stop;
-        }
-    }
+    Sought::Past(n)
 }
 
 // The field with the tag that has the number, counted from 0.

@@ -19,7 +19,8 @@ use Rattle.scope.specs.MeaningScope.{Step}
 use Rattle.scope.specs.MeaningQuery.{wordAt, nameAt, Question, resolveQuery, pathQuery}
 use Rattle.scope.specs.Claims.{Stand}
 use Rattle.scope.specs.Claims.Stand.{here, then}
-use Rattle.scope.specs.MirrorScope.{pathIn, Spans}
+use Rattle.scope.specs.Held.{pathIn}
+use Rattle.scope.specs.MirrorScope.{Spans}
 use Rattle.scope.specs.MirrorQuery.{askedNameOf, askedPathOf}
 use Rattle.scope.specs.declared.AskedName.{AskedName}
 use Rattle.scope.specs.declared.AskedPath.{AskedPath}

@@ -2,38 +2,37 @@
 use mathlib.Core.Path.{_≡_, refl, sym, ap, _∙_, subst}
 use mathlib.Core.List.{List, [], _∷_, map}
 use mathlib.Core.Option.{Option, none, some}
-use mathlib.Core.Bool.{true}
-use Prim.Native.Nat.{ℕ, zero, suc, _+_, _-_, _≤_}
-use native.Mathlib.Nat.{le-refl}
+use mathlib.Core.Bool.{Bool, true}
+use Prim.Native.Nat.{ℕ, zero, suc, _+_, _-_}
 use native.Mathlib.Omega.{arith}
-use borrow.Author.Tests.{eq-eqb}
+use borrow.Author.Tests.{eq-eqb, eqb-true}
+use lib.Dec.{eqb}
 use lib.ListN.{length, take, drop}
 use Rattle.sheet.specs.MeaningReading.{Reading}
-use Rattle.sheet.specs.MeaningName.{Name}
 use Rattle.sheet.proofs.Choosing.{clash}
-use Rattle.schemas.specs.MeaningTree.{treeAt}
-use Rattle.schemas.specs.MeaningSchemas.{Schema, each, schemaOf}
+use Rattle.schemas.specs.MeaningTree.{Tree, treeAt}
+use Rattle.schemas.specs.MeaningSchemas.{Schema, nameOf, schemaOf}
 use Rattle.scope.specs.MeaningNames.{sameName}
-use Rattle.scope.specs.MeaningScope.{Step, placeOf, sameStep, sameScope, samePath}
+use Rattle.scope.specs.MeaningScope.{ScopeType, Step, placeOf, sameStep, sameScope, samePath}
 use Rattle.scope.specs.MeaningScope.ScopeType.{entity, schema, type}
 use Rattle.scope.specs.Told.{toldKind, toldStep, toldScope, toldPath}
 use Rattle.scope.specs.declared.Rung.{Rung}
 use Rattle.scope.specs.declared.Scope.{Scope}
 use Rattle.scope.specs.declared.Path.{Path}
 use Rattle.scope.proofs.Equality.{name-refl, two}
-use Rattle.lookup.specs.MirrorLookup.{itsName, lookIn}
 use Rattle.lookup.specs.declared.Sought.{Sought}
 use Rattle.lookup.specs.declared.Sought.the-variants.{At, Past}
-use Rattle.lookup.proofs.Fields.{nests-type, nests-entity}
-use Rattle.namespace.specs.MeaningNamespace.{Named, a-type, an-entity, Declaration, scopeIn, itemOf, declaredBy, numbered, Entry, entriesFrom, first, or, last, declarationFor, itemsOf, seen, resolved}
+use Rattle.namespace.specs.MeaningNamespace.{Named, a-type, an-entity, Declaration, scopeIn, itemOf, declaredBy, numbered, Entry, entriesFrom, declarations, first, or, last, declarationFor, itemsOf, seen, resolved}
 use Rattle.namespace.specs.MeaningNamespace as meant
 use Rattle.namespace.specs.MeaningOrder.{schemasIn}
-use Rattle.namespace.specs.MirrorNamespace.{wordOf, schemaScope, pathTo, soughtOf, inSchema, entryOf, Houses, thenFor, meantIn}
+use Rattle.namespace.specs.MirrorNamespace.{wordOf, schemaScope, pathTo, soughtOf, typeIn, entityIn, inSchema, inKind, IsHouse, entryOf, Houses, namesakes, Alone, HomeOf, thenFor, meantIn}
+use Rattle.namespace.specs.declared.House.{House}
 use Rattle.namespace.specs.declared.Home as home
 use Rattle.namespace.proofs.Picking.{first-found, last-found}
-use Rattle.namespace.proofs.Schemas.{found, numberOf, named-so, among-types, among-entities, halves, found-there, types-means, entities-means, many-names, in-schema-means}
+use Rattle.namespace.proofs.Schemas.{found, numberOf, named-so, among-types, among-entities, halves, found-there, types-means, entities-means, in-schema-means, one-scope, led-to, in-kind-means}
 use Rattle.namespace.proofs.Scopes.{declaration-same, seen-same, Foreign, foreign-root, foreign-deep, foreign-other, nowhere, resolved-root, resolved-first, resolved-other}
-use Rattle.namespace.proofs.Walks.{bounded, in-second}
+use Rattle.namespace.proofs.Walks.{so-named}
+use Rattle.namespace.proofs.Namesakes.{unnamed, sole}
 
 -- ---- a number found
 
@@ -49,53 +48,74 @@ sought-past (Past i) none e j f = refl
 sought-past (Past i) (some d) e j f = clash (cc)
 sought-past (At i) m e j f = clash (cc)
 
-past-is : (rd : Reading) (w : List ℕ) (xs : List Name) (n k : ℕ) → lookIn rd w xs n ≡ Past k → k ≡ n + length xs
-past-is rd w xs n k e = bounded rd w xs n (n + length xs) (le-refl (n + length xs)) k .1 e
-
 -- ---- the last schema of a name, and so what is seen in its scope
 
--- where it stands
-module _ (s : List ℕ) (o : home.Home) (x : Option Entry) (H : Houses s o x) (n a b : ℕ) (e : o ≡ home.the-variants.At n a b) where
-  house : Houses s (home.the-variants.At n a b) x
-  house = rw e at H
-
-  pub house-order : a ≤ b
-  house-order = house .2
-
-  pub house-in : b ≤ length s
-  house-in = house .3
-
-  pub house-room : n + (b - a) ≤ 65535
-  house-room = house .4
-
-  pub house-first : n ≤ 65535
-  house-first = let z = house .4 in omega arith
-
-  pub house-second : (rd : Reading) (w : List ℕ) (v : Sought) → v ≡ lookIn rd w (each 0x20 itsName (treeAt s a b)) n → (k : ℕ) → v ≡ Past k → k ≤ 65535
-  house-second rd w v vv k g = in-second rd s w a b n house-room v vv k g
-
-module _ (rd : Reading) (s sc : List ℕ) (o : home.Home) (H : Houses s o (last (λ e. sameScope rd (e .scope) (schemaScope sc)) (entriesFrom 0 (schemasIn s)))) where
+module _ (rd : Reading) (s sc : List ℕ) (o : home.Home) (H : HomeOf rd s sc o) where
   abbrev lastly : Option Entry
-  lastly = last (λ e. sameScope rd (e .scope) (schemaScope sc)) (entriesFrom 0 (schemasIn s))
+  lastly = last (so-named rd sc) (entriesFrom 0 (schemasIn s))
 
   unhoused : o ≡ home.the-variants.Nowhere → seen rd (schemasIn s) (schemaScope sc) ≡ []
   unfolding seen itemsOf
-  unhoused e = ap itemsOf (rw e at H)
+  unhoused e = ap itemsOf (subst (λ (i : home.Home). Houses s i lastly) e (H .houses))
 
-  module _ (n a b : ℕ) (e : o ≡ home.the-variants.At n a b) where
+  module _ (hs : House) (alone : Bool) (e : o ≡ home.the-variants.At hs alone) where
+    house : Houses s (home.the-variants.At hs alone) lastly
+    house = subst (λ (i : home.Home). Houses s i lastly) e (H .houses)
+
+    pub house-here : IsHouse s hs
+    house-here = house .2
+
+    abbrev inner : Tree
+    inner = treeAt s (hs .start) (hs .stop)
+
     abbrev schema-place : ℕ
-    schema-place = house s o lastly H n a b e .0
+    schema-place = house .0
 
-    housed : (x : Schema) × (x ≡ schemaOf schema-place (treeAt s a b)) × (seen rd (schemasIn s) (schemaScope sc) ≡ numbered x n (declaredBy x)) × (sameScope rd (scopeIn x) (schemaScope sc) ≡ true)
+    abbrev x : Schema
+    x = schemaOf schema-place inner
+
+    this-scope : sameScope rd (scopeIn x) (schemaScope sc) ≡ true
+    unfolding entryOf
+    this-scope = last-found (so-named rd sc) (entriesFrom 0 (schemasIn s)) (entryOf (hs .first) x) (house .1) .1
+
+    seen-house : seen rd (schemasIn s) (schemaScope sc) ≡ numbered x (hs .first) (declaredBy x)
     unfolding seen itemsOf entryOf
-    housed =
-        let h = house s o lastly H n a b e in
-        let z = last-found (λ e. sameScope rd (e .scope) (schemaScope sc)) (entriesFrom 0 (schemasIn s)) (entryOf n (schemaOf (h .0) (treeAt s a b))) (h .1) in
-        (schemaOf (h .0) (treeAt s a b), refl, ap itemsOf (h .1), z .1)
+    seen-house = ap itemsOf (house .1)
 
     -- a search there
-    searched : (w : List ℕ) → found (inSchema rd w (treeAt s a b) n) ≡ numberOf (first (named-so rd w) (seen rd (schemasIn s) (schemaScope sc)))
-    searched w = let h = housed in in-schema-means rd w schema-place (treeAt s a b) n ∙ sym (ap (λ (l : List Declaration). numberOf (first (named-so rd w) l)) (h .2 ∙ ap (λ (x : Schema). numbered x n (declaredBy x)) (h .1)))
+    searched : (w : List ℕ) → found (inSchema rd w inner (hs .first)) ≡ numberOf (first (named-so rd w) (seen rd (schemasIn s) (schemaScope sc)))
+    searched w = in-schema-means rd w schema-place inner (hs .first) ∙ sym (ap (λ (l : List Declaration). numberOf (first (named-so rd w) l)) seen-house)
+
+    -- if there is no other, what is declared there is all that is declared in the scope
+    module _ (only : alone ≡ true) (kind : ScopeType) (w : List ℕ) where
+      declared-here : declarationFor rd (schemasIn s) (pathTo sc kind w) ≡ first (led-to rd sc kind w) (numbered x (hs .first) (declaredBy x))
+      unfolding declarationFor declarations entryOf
+      declared-here =
+          let k : alone ≡ eqb (namesakes rd sc (schemasIn s)) 1 = subst (Alone (namesakes rd sc (schemasIn s))) e (H .only) in
+          sole rd sc kind w 0 (schemasIn s) (eqb-true (namesakes rd sc (schemasIn s)) 1 (sym k ∙ only)) (entryOf (hs .first) x) (house .1)
+
+      name-same : sameName rd (nameOf inner .bytes) sc ≡ true
+      unfolding schemaOf
+      name-same = sym (one-scope rd x sc) ∙ this-scope
+
+      kind-here : found (inKind rd kind w inner (hs .first)) ≡ numberOf (declarationFor rd (schemasIn s) (pathTo sc kind w))
+      kind-here = in-kind-means rd sc kind w schema-place inner (hs .first) name-same ∙ ap numberOf (sym declared-here)
+
+-- ---- `first_in`
+
+module _ (rd : Reading) (s sc : List ℕ) (o : home.Home) (H : HomeOf rd s sc o) (kind : ScopeType) (w : List ℕ) where
+  pub first-nowhere : o ≡ home.the-variants.Nowhere → Past 0 ≡ soughtOf (declarationFor rd (schemasIn s) (pathTo sc kind w))
+  unfolding soughtOf declarationFor declarations
+  first-nowhere e = sym (ap soughtOf (unnamed rd sc kind w 0 (schemasIn s) (subst (λ (i : home.Home). Houses s i (lastly rd s sc o H)) e (H .houses))))
+
+  module _ (hs : House) (alone : Bool) (e : o ≡ home.the-variants.At hs alone) (only : alone ≡ true) (v : Sought) (vv : v ≡ inKind rd kind w (treeAt s (hs .start) (hs .stop)) (hs .first)) (j : ℕ) where
+    pub first-there : v ≡ At j → v ≡ soughtOf (declarationFor rd (schemasIn s) (pathTo sc kind w))
+    first-there g = sought-at v (declarationFor rd (schemasIn s) (pathTo sc kind w)) (ap found vv ∙ kind-here rd s sc o H hs alone e only kind w) j g
+
+    pub first-lost : v ≡ Past j → Past 0 ≡ soughtOf (declarationFor rd (schemasIn s) (pathTo sc kind w))
+    first-lost g = sought-past v (declarationFor rd (schemasIn s) (pathTo sc kind w)) (ap found vv ∙ kind-here rd s sc o H hs alone e only kind w) j g
+
+pub ruleset firsts = (first-nowhere, first-there, first-lost, house-here)
 
 -- ---- `resolved_for`
 
@@ -133,14 +153,14 @@ module _ (rd : Reading) (s q : List ℕ) (sc : Scope) (w : List ℕ) where
             ∙ resolved-first rd (schemasIn s) w (toldStep q (sc .one)) (take (sc .count - 1) (toldStep q (sc .two) ∷ toldStep q (sc .three) ∷ []))
             ∙ ap (first (named-so rd w)) (seen-same rd (schemasIn s) (toldStep q (sc .one) ∷ []) (schemaScope bytes) (step-scope rd q (sc .one) (sym kk ∙ e)))
 
-        module _ (o : home.Home) (H : Houses s o (last (λ e. sameScope rd (e .scope) (schemaScope bytes)) (entriesFrom 0 (schemasIn s)))) where
+        module _ (o : home.Home) (H : HomeOf rd s bytes o) where
           pub resolve-nowhere : o ≡ home.the-variants.Nowhere → Past 0 ≡ soughtOf (resolved rd (schemasIn s) (toldScope q sc) w)
           unfolding soughtOf first
           resolve-nowhere z = sym (ap soughtOf (seen-there ∙ ap (first (named-so rd w)) (unhoused rd s bytes o H z)))
 
-          module _ (n a b : ℕ) (z : o ≡ home.the-variants.At n a b) (v : Sought) (vv : v ≡ inSchema rd w (treeAt s a b) n) (j : ℕ) where
+          module _ (hs : House) (alone : Bool) (z : o ≡ home.the-variants.At hs alone) (v : Sought) (vv : v ≡ inSchema rd w (treeAt s (hs .start) (hs .stop)) (hs .first)) (j : ℕ) where
             reached : found v ≡ numberOf (resolved rd (schemasIn s) (toldScope q sc) w)
-            reached = ap found vv ∙ searched rd s bytes o H n a b z w ∙ ap numberOf (sym seen-there)
+            reached = ap found vv ∙ searched rd s bytes o H hs alone z w ∙ ap numberOf (sym seen-there)
 
             pub resolve-found : v ≡ At j → v ≡ soughtOf (resolved rd (schemasIn s) (toldScope q sc) w)
             resolve-found g = sought-at v (resolved rd (schemasIn s) (toldScope q sc) w) reached j g
@@ -148,7 +168,7 @@ module _ (rd : Reading) (s q : List ℕ) (sc : Scope) (w : List ℕ) where
             pub resolve-lost : v ≡ Past j → Past 0 ≡ soughtOf (resolved rd (schemasIn s) (toldScope q sc) w)
             resolve-lost g = sought-past v (resolved rd (schemasIn s) (toldScope q sc) w) reached j g
 
-pub ruleset reaching-names = (resolve-root, resolve-other, resolve-nowhere, resolve-found, resolve-lost, house-order, house-in, house-room)
+pub ruleset reaching-names = (resolve-root, resolve-other, resolve-nowhere, resolve-found, resolve-lost, house-here)
 
 -- ---- `number_for`
 
@@ -200,7 +220,7 @@ none-of : (m : Option Declaration) → numberOf m ≡ none → m ≡ none
 none-of none e = refl
 none-of (some d) e = clash (cc)
 
-module _ (rd : Reading) (s sc w : List ℕ) (o : home.Home) (H : Houses s o (last (λ e. sameScope rd (e .scope) (schemaScope sc)) (entriesFrom 0 (schemasIn s)))) where
+module _ (rd : Reading) (s sc w : List ℕ) (o : home.Home) (H : HomeOf rd s sc o) where
   seen-here : resolved rd (schemasIn s) (schemaScope sc) w ≡ first (named-so rd w) (seen rd (schemasIn s) (schemaScope sc))
   unfolding schemaScope
   seen-here = resolved-first rd (schemasIn s) w (record { kind = schema; name = wordOf sc }) []
@@ -209,65 +229,72 @@ module _ (rd : Reading) (s sc w : List ℕ) (o : home.Home) (H : Houses s o (las
   unfolding meantIn thenFor soughtOf first
   meant-nowhere z = sym (ap (λ (m : Option Declaration). soughtOf (thenFor rd (schemasIn s) m)) (seen-here ∙ ap (first (named-so rd w)) (unhoused rd s sc o H z)))
 
-  module _ (n a b : ℕ) (z : o ≡ home.the-variants.At n a b) where
+  module _ (hs : House) (alone : Bool) (z : o ≡ home.the-variants.At hs alone) where
     abbrev place : ℕ
-    place = schema-place rd s sc o H n a b z
+    place = schema-place rd s sc o H hs alone z
 
-    abbrev x : Schema
-    x = schemaOf place (treeAt s a b)
+    abbrev g : Tree
+    g = treeAt s (hs .start) (hs .stop)
 
-    parts : resolved rd (schemasIn s) (schemaScope sc) w ≡ or (among-types (named-so rd w) x n) (among-entities (named-so rd w) x n)
-    parts = let h = housed rd s sc o H n a b z in seen-here ∙ ap (first (named-so rd w)) (h .2 ∙ ap (λ (y : Schema). numbered y n (declaredBy y)) (h .1)) ∙ halves (named-so rd w) x n
+    abbrev n : ℕ
+    n = hs .first
 
-    this-scope : sameScope rd (scopeIn x) (schemaScope sc) ≡ true
-    this-scope = let h = housed rd s sc o H n a b z in subst (λ (y : Schema). sameScope rd (scopeIn y) (schemaScope sc) ≡ true) (h .1) (h .3)
+    abbrev y : Schema
+    y = schemaOf place g
+
+    parts : resolved rd (schemasIn s) (schemaScope sc) w ≡ or (among-types (named-so rd w) y n) (among-entities (named-so rd w) y n)
+    parts = seen-here ∙ ap (first (named-so rd w)) (seen-house rd s sc o H hs alone z) ∙ halves (named-so rd w) y n
 
     -- a declaration of the schema with the name has the path to it
-    path-there : (m : Named) (d : Declaration) → d .path ≡ meant.pathIn x m → named-so rd w d ≡ true → samePath rd (d .path) (pathTo sc (itemOf m .kind) w) ≡ true
+    path-there : (m : Named) (d : Declaration) → d .path ≡ meant.pathIn y m → named-so rd w d ≡ true → samePath rd (d .path) (pathTo sc (itemOf m .kind) w) ≡ true
     unfolding samePath sameStep meant.pathIn pathTo wordOf
     path-there m d e f =
-        let g : sameName rd (itemOf m .name .bytes) w ≡ true = rw e at f in
-        rw e (two this-scope (two (eq-eqb (placeOf (itemOf m .kind)) (placeOf (itemOf m .kind)) refl) g))
+        let i : sameName rd (itemOf m .name .bytes) w ≡ true = rw e at f in
+        rw e (two (this-scope rd s sc o H hs alone z) (two (eq-eqb (placeOf (itemOf m .kind)) (placeOf (itemOf m .kind)) refl) i))
 
-    module _ (v : Sought) (vv : v ≡ lookIn rd w (each 0x20 itsName (treeAt s a b)) n) where
-      among : found v ≡ numberOf (among-types (named-so rd w) x n)
-      among = ap found vv ∙ sym (types-means rd w place (treeAt s a b) n)
+    module _ (v : Sought) (vv : v ≡ typeIn rd w g n) where
+      among : found v ≡ numberOf (among-types (named-so rd w) y n)
+      among = ap found vv ∙ sym (types-means rd w place g n)
 
       pub meant-type : (j : ℕ) → v ≡ At j → (r : Sought) → r ≡ soughtOf (declarationFor rd (schemasIn s) (pathTo sc type w)) → r ≡ soughtOf (meantIn rd (schemasIn s) sc w)
       unfolding meantIn thenFor or itemOf
-      meant-type j g r h =
-          let m = some-of (among-types (named-so rd w) x n) j (sym among ∙ ap found g) in
-          let u = first-found (named-so rd w) (numbered x n (map a-type (x .types))) (m .0) (m .1) in
-          let y = found-there a-type x n (x .types) (m .0) (u .0) in
-          let p = path-there (a-type (y .0)) (m .0) (y .1) (u .1) in
-          h ∙ sym (ap soughtOf (ap (thenFor rd (schemasIn s)) (parts ∙ ap (λ (k : Option Declaration). or k (among-entities (named-so rd w) x n)) (m .1)) ∙ declaration-same rd (schemasIn s) (m .0 .path) (pathTo sc type w) p))
+      meant-type j f r h =
+          let m = some-of (among-types (named-so rd w) y n) j (sym among ∙ ap found f) in
+          let u = first-found (named-so rd w) (numbered y n (map a-type (y .types))) (m .0) (m .1) in
+          let l = found-there a-type y n (y .types) (m .0) (u .0) in
+          let p = path-there (a-type (l .0)) (m .0) (l .1) (u .1) in
+          h ∙ sym (ap soughtOf (ap (thenFor rd (schemasIn s)) (parts ∙ ap (λ (k : Option Declaration). or k (among-entities (named-so rd w) y n)) (m .1)) ∙ declaration-same rd (schemasIn s) (m .0 .path) (pathTo sc type w) p))
 
-      module _ (k : ℕ) (g : v ≡ Past k) where
-        module _ (v2 : Sought) (vv2 : v2 ≡ lookIn rd w (each 0x30 itsName (treeAt s a b)) k) where
-          no-types : among-types (named-so rd w) x n ≡ none
-          no-types = none-of (among-types (named-so rd w) x n) (sym among ∙ ap found g)
+      pub meant-type-here : alone ≡ true → (j : ℕ) → v ≡ At j → v ≡ soughtOf (meantIn rd (schemasIn s) sc w)
+      unfolding inKind
+      meant-type-here only j f = meant-type j f v (first-there rd s sc o H type w hs alone z only v vv j f)
 
-          behind-types : k ≡ n + length (x .types)
-          behind-types = past-is rd w (each 0x20 itsName (treeAt s a b)) n k (sym vv ∙ g) ∙ ap (λ (i : ℕ). n + i) (many-names rd w place (treeAt s a b) n)
+      module _ (k : ℕ) (f : v ≡ Past k) (v2 : Sought) (vv2 : v2 ≡ entityIn rd w g n) where
+        no-types : among-types (named-so rd w) y n ≡ none
+        no-types = none-of (among-types (named-so rd w) y n) (sym among ∙ ap found f)
 
-          among-2 : found v2 ≡ numberOf (among-entities (named-so rd w) x n)
-          among-2 = ap found vv2 ∙ ap (λ (i : ℕ). found (lookIn rd w (each 0x30 itsName (treeAt s a b)) i)) behind-types ∙ sym (entities-means rd w place (treeAt s a b) n)
+        among-2 : found v2 ≡ numberOf (among-entities (named-so rd w) y n)
+        among-2 = ap found vv2 ∙ sym (entities-means rd w place g n)
 
-          only : resolved rd (schemasIn s) (schemaScope sc) w ≡ among-entities (named-so rd w) x n
-          unfolding or
-          only = parts ∙ ap (λ (i : Option Declaration). or i (among-entities (named-so rd w) x n)) no-types
+        only-entities : resolved rd (schemasIn s) (schemaScope sc) w ≡ among-entities (named-so rd w) y n
+        unfolding or
+        only-entities = parts ∙ ap (λ (i : Option Declaration). or i (among-entities (named-so rd w) y n)) no-types
 
-          pub meant-none : (j : ℕ) → v2 ≡ Past j → Past 0 ≡ soughtOf (meantIn rd (schemasIn s) sc w)
-          unfolding meantIn thenFor soughtOf
-          meant-none j e = sym (ap (λ (m : Option Declaration). soughtOf (thenFor rd (schemasIn s) m)) (only ∙ none-of (among-entities (named-so rd w) x n) (sym among-2 ∙ ap found e)))
+        pub meant-none : (j : ℕ) → v2 ≡ Past j → Past 0 ≡ soughtOf (meantIn rd (schemasIn s) sc w)
+        unfolding meantIn thenFor soughtOf
+        meant-none j e = sym (ap (λ (m : Option Declaration). soughtOf (thenFor rd (schemasIn s) m)) (only-entities ∙ none-of (among-entities (named-so rd w) y n) (sym among-2 ∙ ap found e)))
 
-          pub meant-entity : (j : ℕ) → v2 ≡ At j → (r : Sought) → r ≡ soughtOf (declarationFor rd (schemasIn s) (pathTo sc entity w)) → r ≡ soughtOf (meantIn rd (schemasIn s) sc w)
-          unfolding meantIn thenFor itemOf
-          meant-entity j e r h =
-              let m = some-of (among-entities (named-so rd w) x n) j (sym among-2 ∙ ap found e) in
-              let u = first-found (named-so rd w) (numbered x (n + length (x .types)) (map an-entity (x .entities))) (m .0) (m .1) in
-              let y = found-there an-entity x (n + length (x .types)) (x .entities) (m .0) (u .0) in
-              let p = path-there (an-entity (y .0)) (m .0) (y .1) (u .1) in
-              h ∙ sym (ap soughtOf (ap (thenFor rd (schemasIn s)) (only ∙ m .1) ∙ declaration-same rd (schemasIn s) (m .0 .path) (pathTo sc entity w) p))
+        pub meant-entity : (j : ℕ) → v2 ≡ At j → (r : Sought) → r ≡ soughtOf (declarationFor rd (schemasIn s) (pathTo sc entity w)) → r ≡ soughtOf (meantIn rd (schemasIn s) sc w)
+        unfolding meantIn thenFor itemOf
+        meant-entity j e r h =
+            let m = some-of (among-entities (named-so rd w) y n) j (sym among-2 ∙ ap found e) in
+            let u = first-found (named-so rd w) (numbered y (n + length (y .types)) (map an-entity (y .entities))) (m .0) (m .1) in
+            let l = found-there an-entity y (n + length (y .types)) (y .entities) (m .0) (u .0) in
+            let p = path-there (an-entity (l .0)) (m .0) (l .1) (u .1) in
+            h ∙ sym (ap soughtOf (ap (thenFor rd (schemasIn s)) (only-entities ∙ m .1) ∙ declaration-same rd (schemasIn s) (m .0 .path) (pathTo sc entity w) p))
 
-pub ruleset meaning-names = (meant-nowhere, meant-type, meant-none, meant-entity, house-order, house-in, house-first, house-second, nests-type, nests-entity)
+        pub meant-entity-here : alone ≡ true → (j : ℕ) → v2 ≡ At j → v2 ≡ soughtOf (meantIn rd (schemasIn s) sc w)
+        unfolding inKind
+        meant-entity-here only j e = meant-entity j e v2 (first-there rd s sc o H entity w hs alone z only v2 vv2 j e)
+
+pub ruleset meaning-names = (meant-nowhere, meant-type, meant-type-here, meant-none, meant-entity, meant-entity-here, house-here)

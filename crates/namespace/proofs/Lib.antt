@@ -5,6 +5,7 @@ pub mod Schemas
 pub mod Scopes
 pub mod Clearing
 pub mod Walks
+pub mod Namesakes
 pub mod Leading
 pub mod Asking
 pub mod Standing

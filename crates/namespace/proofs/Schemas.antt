@@ -24,7 +24,7 @@ use Rattle.lookup.specs.declared.Sought.the-variants.{At, Past}
 use Rattle.lookup.proofs.Fields.{each-map, each-length}
 use Rattle.lookup.proofs.Few.{few}
 use Rattle.namespace.specs.MeaningNamespace.{Named, a-type, an-entity, Declaration, scopeIn, itemOf, pathIn, declaredBy, numbered, first, or}
-use Rattle.namespace.specs.MirrorNamespace.{wordOf, schemaScope, pathTo, sizeIn, orOn, inSchema, inKind}
+use Rattle.namespace.specs.MirrorNamespace.{wordOf, schemaScope, pathTo, typesIn, sizeIn, typeIn, entityIn, orSought, inSchema, inKind}
 use Rattle.namespace.proofs.Picking.{or-none, first-append, map-length}
 use Rattle.namespace.proofs.Numbering.{numbered-append, length-declared}
 
@@ -54,7 +54,7 @@ module _ (p : ℕ) (g : Tree) where
   many-entities = each-length 0x30 entityOf itself g
 
   pub size-is : sizeIn g ≡ length (declaredBy (schemaOf p g))
-  unfolding sizeIn
+  unfolding sizeIn typesIn
   size-is = sym (length-declared (schemaOf p g) ∙ ap₂ (λ (a b : ℕ). a + b) many-types many-entities)
 
   pub name-is : schemaOf p g .name ≡ nameOf g
@@ -62,7 +62,7 @@ module _ (p : ℕ) (g : Tree) where
   name-is = refl
 
 pub size-few : (s : List ℕ) (at e : ℕ) → sizeIn (treeAt s at e) ≤ e - at
-unfolding sizeIn
+unfolding sizeIn typesIn
 size-few s at e = few s at e 0x20 0x30
 
 -- ---- a search by name and one by a test on declarations
@@ -96,15 +96,10 @@ module _ (rd : Reading) (w : List ℕ) where
       by true e = refl
       by false e = e
 
-  -- the search goes on behind the last one
-  or-on : (l : List Name) (n : ℕ) (go : ℕ → Sought) → found (orOn (lookIn rd w l n) go) ≡ or (found (lookIn rd w l n)) (found (go (n + length l)))
-  unfolding lookIn orOn or
-  or-on [] n go = let z : n + 0 ≡ n = omega arith in rw z refl
-  or-on (x ∷ l) n go = by (sameName rd (x .bytes) w) (let z : n + 1 + length l ≡ n + suc (length l) = omega arith in rw z at (or-on l (n + 1) go))
-    where
-      by : (b : Bool) → found (orOn (lookIn rd w l (n + 1)) go) ≡ or (found (lookIn rd w l (n + 1))) (found (go (n + suc (length l)))) → found (orOn (cond b (At n) (lookIn rd w l (n + 1))) go) ≡ or (found (cond b (At n) (lookIn rd w l (n + 1)))) (found (go (n + suc (length l))))
-      by true e = refl
-      by false e = e
+found-or : (a b : Sought) → found (orSought a b) ≡ or (found a) (found b)
+unfolding orSought or
+found-or (At k) b = refl
+found-or (Past k) b = refl
 
 -- what is found there is one of those
 pub found-there : {A : Type 0} (mk : A → Named) (x : Schema) (n : ℕ) (l : List A) (d : Declaration) → d ∈ numbered x n (map mk l) → (a : A) × (d .path ≡ pathIn x (mk a))
@@ -149,23 +144,21 @@ module _ (rd : Reading) (w : List ℕ) where
     abbrev that : Schema
     that = schemaOf p g
 
-    pub types-means : numberOf (among-types named-so that n) ≡ found (lookIn rd w (each 0x20 itsName g) n)
-    unfolding pathIn itemOf
+    pub types-means : numberOf (among-types named-so that n) ≡ found (typeIn rd w g n)
+    unfolding pathIn itemOf typeIn
     types-means = looked rd w named-so that a-type typeName (λ m a. refl) (that .types) n ∙ ap (λ (l : List Name). found (lookIn rd w l n)) (type-names p g)
 
-    pub entities-means : numberOf (among-entities named-so that n) ≡ found (lookIn rd w (each 0x30 itsName g) (n + length (that .types)))
-    unfolding pathIn itemOf
-    entities-means = looked rd w named-so that an-entity entityName (λ m a. refl) (that .entities) (n + length (that .types)) ∙ ap (λ (l : List Name). found (lookIn rd w l (n + length (that .types)))) (entity-names p g)
-
-    pub many-names : length (each 0x20 itsName g) ≡ length (that .types)
-    unfolding schemaOf
-    many-names = each-length 0x20 itsName typeOf g
+    pub entities-means : numberOf (among-entities named-so that n) ≡ found (entityIn rd w g n)
+    unfolding pathIn itemOf entityIn typesIn
+    entities-means =
+        looked rd w named-so that an-entity entityName (λ m a. refl) (that .entities) (n + length (that .types))
+        ∙ ap₂ (λ (l : List Name) (k : ℕ). found (lookIn rd w l (n + k))) (entity-names p g) (many-types p g)
 
     pub in-schema-means : found (inSchema rd w g n) ≡ numberOf (first named-so (numbered that n (declaredBy that)))
     unfolding inSchema
     in-schema-means =
-        or-on rd w (each 0x20 itsName g) n (λ k. lookIn rd w (each 0x30 itsName g) k)
-        ∙ ap₂ (λ (a b : Option ℕ). or a b) (sym types-means) (ap (λ (k : ℕ). found (lookIn rd w (each 0x30 itsName g) (n + k))) many-names ∙ sym entities-means)
+        found-or (typeIn rd w g n) (entityIn rd w g n)
+        ∙ ap₂ (λ (a b : Option ℕ). or a b) (sym types-means) (sym entities-means)
         ∙ sym (ap numberOf (halves named-so that n) ∙ number-or (among-types named-so that n) (among-entities named-so that n))
 
 -- ---- the first equal path
@@ -206,23 +199,25 @@ module _ (rd : Reading) (sc : List ℕ) (k : ScopeType) (w : List ℕ) where
     unfolding itemOf
     no-entities d = map-none led-to an-entity this (λ m a. leads this (an-entity a) ∙ rw (ne-eqb 0 (placeOf k) (λ e. d (sym e)), and-false (sameName rd (this .name .bytes) sc)) refl) (n + length (this .types)) (this .entities)
 
-    some-types : placeOf k ≡ 9 → numberOf (among-types led-to this n) ≡ found (lookIn rd w (each 0x20 itsName g) n)
-    unfolding itemOf
+    some-types : placeOf k ≡ 9 → numberOf (among-types led-to this n) ≡ found (typeIn rd w g n)
+    unfolding itemOf typeIn
     some-types e = looked rd w led-to this a-type typeName (λ m a. leads this (a-type a) ∙ rw (this-same, e) refl) (this .types) n ∙ ap (λ (l : List Name). found (lookIn rd w l n)) (type-names p g)
 
-    some-entities : placeOf k ≡ 0 → numberOf (among-entities led-to this n) ≡ found (lookIn rd w (each 0x30 itsName g) (n + length (this .types)))
-    unfolding itemOf
-    some-entities e = looked rd w led-to this an-entity entityName (λ m a. leads this (an-entity a) ∙ rw (this-same, e) refl) (this .entities) (n + length (this .types)) ∙ ap (λ (l : List Name). found (lookIn rd w l (n + length (this .types)))) (entity-names p g)
+    some-entities : placeOf k ≡ 0 → numberOf (among-entities led-to this n) ≡ found (entityIn rd w g n)
+    unfolding itemOf entityIn typesIn
+    some-entities e =
+        looked rd w led-to this an-entity entityName (λ m a. leads this (an-entity a) ∙ rw (this-same, e) refl) (this .entities) (n + length (this .types))
+        ∙ ap₂ (λ (l : List Name) (k : ℕ). found (lookIn rd w l (n + k))) (entity-names p g) (many-types p g)
 
     pub in-kind-means : found (inKind rd k w g n) ≡ numberOf (first led-to (numbered this n (declaredBy this)))
     unfolding inKind or
     in-kind-means = nine (eqb (placeOf k) 9) refl ∙ sym (ap numberOf (halves led-to this n))
       where
-        nought : (c : Bool) → eqb (placeOf k) 0 ≡ c → (placeOf k ≡ 9 → ⊥) → found (cond c (lookIn rd w (each 0x30 itsName g) (n + length (each 0x20 itself g))) (Past 0)) ≡ numberOf (or (among-types led-to this n) (among-entities led-to this n))
-        nought true e d = sym (rw (no-types d) (some-entities (eqb-true (placeOf k) 0 e) ∙ ap (λ (m : ℕ). found (lookIn rd w (each 0x30 itsName g) (n + m))) (many-types p g)))
+        nought : (c : Bool) → eqb (placeOf k) 0 ≡ c → (placeOf k ≡ 9 → ⊥) → found (cond c (entityIn rd w g n) (Past 0)) ≡ numberOf (or (among-types led-to this n) (among-entities led-to this n))
+        nought true e d = sym (rw (no-types d) (some-entities (eqb-true (placeOf k) 0 e)))
         nought false e d = sym (rw (no-types d, no-entities (eqb-false (placeOf k) 0 e)) refl)
 
-        nine : (c : Bool) → eqb (placeOf k) 9 ≡ c → found (cond c (lookIn rd w (each 0x20 itsName g) n) (cond (eqb (placeOf k) 0) (lookIn rd w (each 0x30 itsName g) (n + length (each 0x20 itself g))) (Past 0))) ≡ numberOf (or (among-types led-to this n) (among-entities led-to this n))
+        nine : (c : Bool) → eqb (placeOf k) 9 ≡ c → found (cond c (typeIn rd w g n) (cond (eqb (placeOf k) 0) (entityIn rd w g n) (Past 0))) ≡ numberOf (or (among-types led-to this n) (among-entities led-to this n))
         nine true e =
             let z = eqb-true (placeOf k) 9 e in
             sym (rw (no-entities (λ u. omega (arith, z, u))) (number-or (among-types led-to this n) none ∙ or-none (numberOf (among-types led-to this n)) ∙ some-types z))

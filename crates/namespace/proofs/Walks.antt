@@ -3,9 +3,11 @@ use mathlib.Core.Path.{_≡_, refl, sym, ap, ap₂, _∙_, subst}
 use mathlib.Core.List.{List, [], _∷_}
 use mathlib.Core.Option.{Option, none, some}
 use mathlib.Core.Bool.{Bool, true, false, cond}
-use Prim.Native.Nat.{ℕ, suc, _+_, _-_, _≤_}
+use Prim.Native.Nat.{ℕ, zero, suc, _+_, _-_, _≤_}
+use native.Mathlib.Nat.{le-refl}
 use native.Mathlib.Omega.{arith}
 use borrow.Author.Tests.{eq-eqb, ne-eqb}
+use lib.Dec.{eqb}
 use lib.ListN.{length}
 use Rattle.sheet.specs.MeaningReading.{Reading}
 use Rattle.sheet.specs.MeaningName.{Name}
@@ -25,97 +27,156 @@ use Rattle.lookup.proofs.Fields.{none-left, one-here, other-here, field-start, 
 use Rattle.lookup.proofs.Few.{few}
 use Rattle.namespace.specs.MeaningNamespace.{Declaration, scopeIn, declaredBy, numbered, Entry, entriesFrom, allOf, declarations, first, or, last, declarationFor}
 use Rattle.namespace.specs.MeaningOrder.{schemasIn}
-use Rattle.namespace.specs.MirrorNamespace.{schemaScope, pathTo, Small, soughtOf, sizeIn, orOn, inSchema, inKind, entryOf, Houses}
+use Rattle.namespace.specs.MirrorNamespace.{schemaScope, pathTo, Small, soughtOf, typesIn, sizeIn, typeIn, entityIn, orSought, inSchema, inKind, houseAt, IsHouse, entryOf, Houses, namesakes, Alone, HomeOf}
+use Rattle.namespace.specs.declared.House.{House}
 use Rattle.namespace.specs.declared.Home as home
 use Rattle.namespace.proofs.Picking.{or-none, or-assoc, first-append}
 use Rattle.namespace.proofs.Schemas.{size-is, size-few, found, numberOf, one-scope, led-to, other-schema, in-kind-means}
 
--- ---- size
+-- ---- the house of a schema
 
-pub size-sum : (s : List ℕ) (at e x y : ℕ) → x ≡ length (each 0x20 itself (treeAt s at e)) → y ≡ length (each 0x30 itself (treeAt s at e)) → x + y ≡ sizeIn (treeAt s at e)
-unfolding sizeIn
-size-sum s at e x y p q = rw (p, q) refl
+-- m and k are the numbers of its first entity and behind its last declaration, once the fields left are counted
+pub record Housing (s : List ℕ) (at e n m k from : ℕ) : Type 0 where
+  pub inside : from ≤ e
+  pub fitsIn : e ≤ length s
+  pub fewer : m ≤ k
+  pub small : k ≤ 65535 + from
+  pub types : m + length (each 0x20 itself (treeAt s from e)) ≡ n + length (each 0x20 itself (treeAt s at e))
+  pub all : k + (length (each 0x20 itself (treeAt s from e)) + length (each 0x30 itself (treeAt s from e))) ≡ n + (length (each 0x20 itself (treeAt s at e)) + length (each 0x30 itself (treeAt s at e)))
 
-pub size-room : (s : List ℕ) (at e x y : ℕ) → e ≤ 65535 → x ≡ length (each 0x20 itself (treeAt s at e)) → y ≡ length (each 0x30 itself (treeAt s at e)) → x + y ≤ 65535
-size-room s at e x y i p q = let f = few s at e 0x20 0x30 in omega arith
+pub house-start : (s : List ℕ) (at e n : ℕ) → at ≤ e → e ≤ length s → n ≤ 65535 → Housing s at e n n n at
+house-start s at e n i j l = record { inside = i; fitsIn = j; fewer = le-refl n; small = omega arith; types = refl; all = refl }
 
-pub ruleset sizing = (size-sum, size-room, nests-type, nests-entity)
+module _ (s : List ℕ) (at e n m k from : ℕ) (f : Housing s at e n m k from) (h : Header) (y : h ≡ fieldAt s from e) where
+  pub house-end : h ≡ Passes → record { first = n; entities = m; past = k; start = at; stop = e } ≡ houseAt s at e n
+  unfolding houseAt sizeIn typesIn
+  house-end q =
+      let v : length (each 0x20 itself (treeAt s from e)) ≡ 0 = ap length (none-left s from e h y 0x20 itself q) in
+      let w : length (each 0x30 itself (treeAt s from e)) ≡ 0 = ap length (none-left s from e h y 0x30 itself q) in
+      let i : m ≡ n + length (each 0x20 itself (treeAt s at e)) = omega (arith, f .types) in
+      let j : k ≡ n + (length (each 0x20 itself (treeAt s at e)) + length (each 0x30 itself (treeAt s at e))) = omega (arith, f .all) in
+      rw (i, j) refl
+
+  module _ (t a b : ℕ) (q : h ≡ Field t a b) where
+    on : (m k : ℕ) → m ≤ k → k ≤ 65535 + b → m + length (each 0x20 itself (treeAt s b e)) ≡ n + length (each 0x20 itself (treeAt s at e))
+        → k + (length (each 0x20 itself (treeAt s b e)) + length (each 0x30 itself (treeAt s b e))) ≡ n + (length (each 0x20 itself (treeAt s at e)) + length (each 0x30 itself (treeAt s at e)))
+        → Housing s at e n m k b
+    on m k i j v w = record { inside = field-in s from e h y t a b q; fitsIn = f .fitsIn; fewer = i; small = j; types = v; all = w }
+
+    pub house-type : t ≡ 0x20 → Housing s at e n (m + 1) (k + 1) b
+    house-type z =
+        let i = field-on s from e h y t a b q in
+        let v : length (each 0x20 itself (treeAt s from e)) ≡ suc (length (each 0x20 itself (treeAt s b e))) = ap length (one-here s from e h y t a b q itself 0x20 z nests-type) in
+        let w : length (each 0x30 itself (treeAt s from e)) ≡ length (each 0x30 itself (treeAt s b e)) = ap length (other-here s from e h y t a b q itself 0x30 (λ u. omega (arith, z, u))) in
+        on (m + 1) (k + 1) (omega (arith, f .fewer)) (omega (arith, f .small)) (omega (arith, f .types)) (omega (arith, f .all))
+
+    module _ (d : t ≡ 0x20 → ⊥) where
+      no-type : length (each 0x20 itself (treeAt s from e)) ≡ length (each 0x20 itself (treeAt s b e))
+      no-type = ap length (other-here s from e h y t a b q itself 0x20 d)
+
+      pub house-entity : t ≡ 0x30 → Housing s at e n m (k + 1) b
+      house-entity z =
+          let i = field-on s from e h y t a b q in
+          let w : length (each 0x30 itself (treeAt s from e)) ≡ suc (length (each 0x30 itself (treeAt s b e))) = ap length (one-here s from e h y t a b q itself 0x30 z nests-entity) in
+          on m (k + 1) (omega (arith, f .fewer)) (omega (arith, f .small)) (omega (arith, f .types, no-type)) (omega (arith, f .all, no-type))
+
+      pub house-other : (t ≡ 0x30 → ⊥) → Housing s at e n m k b
+      house-other c =
+          let i = field-on s from e h y t a b q in
+          let w : length (each 0x30 itself (treeAt s from e)) ≡ length (each 0x30 itself (treeAt s b e)) = ap length (other-here s from e h y t a b q itself 0x30 c) in
+          on m k (f .fewer) (omega (arith, f .small)) (omega (arith, f .types, no-type)) (omega (arith, f .all, no-type))
+
+pub ruleset housing = (house-start, house-end, house-type, house-entity, house-other)
+
+pub is-house : (s : List ℕ) (a b n : ℕ) → a ≤ b → b ≤ length s → n + (b - a) ≤ 65535 → IsHouse s (houseAt s a b n)
+unfolding houseAt
+is-house s a b n i j k = record { is = refl; order = i; inside = j; small = k }
 
 -- ---- a search in one schema
 
-pub bounded : (rd : Reading) (w : List ℕ) (xs : List Name) (n m : ℕ) → n + length xs ≤ m → (k : ℕ) → (lookIn rd w xs n ≡ At k → k ≤ m) × (lookIn rd w xs n ≡ Past k → k ≡ n + length xs)
+bounded : (rd : Reading) (w : List ℕ) (xs : List Name) (n m : ℕ) → n + length xs ≤ m → (k : ℕ) → lookIn rd w xs n ≡ At k → k ≤ m
 unfolding lookIn
-bounded rd w [] n m h k = (λ e. clash (cc), λ e. (let z : n ≡ k = cc in omega arith))
-bounded rd w (x ∷ xs) n m h k = go (sameName rd (x .bytes) w) (bounded rd w xs (n + 1) m (omega arith) k)
+bounded rd w [] n m h k e = clash (cc)
+bounded rd w (x ∷ xs) n m h k e = go (sameName rd (x .bytes) w) (bounded rd w xs (n + 1) m (omega arith) k) e
   where
-    go : (b : Bool) → (lookIn rd w xs (n + 1) ≡ At k → k ≤ m) × (lookIn rd w xs (n + 1) ≡ Past k → k ≡ n + 1 + length xs) → (cond b (At n) (lookIn rd w xs (n + 1)) ≡ At k → k ≤ m) × (cond b (At n) (lookIn rd w xs (n + 1)) ≡ Past k → k ≡ n + suc (length xs))
-    go true i = (λ e. (let z : n ≡ k = cc in omega arith), λ e. clash (cc))
-    go false i = (i .0, λ e. (let z = i .1 e in omega arith))
+    go : (b : Bool) → (lookIn rd w xs (n + 1) ≡ At k → k ≤ m) → cond b (At n) (lookIn rd w xs (n + 1)) ≡ At k → k ≤ m
+    go true i e = let z : n ≡ k = cc in omega arith
+    go false i e = i e
 
-small-look : (rd : Reading) (w : List ℕ) (xs : List Name) (n : ℕ) → n + length xs ≤ 65535 → (o : Sought) → o ≡ lookIn rd w xs n → Small o
-small-look rd w xs n h (At k) e = bounded rd w xs n 65535 h k .0 (sym e)
-small-look rd w xs n h (Past k) e = tt
+small-look : (rd : Reading) (w : List ℕ) (xs : List Name) (n m : ℕ) → m ≡ n + length xs → m ≤ 65535 → (o : Sought) → o ≡ lookIn rd w xs n → Small o
+small-look rd w xs n m q h (At k) e = bounded rd w xs n 65535 (omega arith) k (sym e)
+small-look rd w xs n m q h (Past k) e = tt
 
--- names are as many as fields
-many : (u : ℕ) (g : Tree) → length (each u itsName g) ≡ length (each u itself g)
-many u g = each-length u itsName itself g
+module _ (s : List ℕ) (h : House) (H : IsHouse s h) where
+  pub start-order : h .start ≤ h .stop
+  start-order = H .order
 
-pub in-room : (s : List ℕ) (at e n m : ℕ) → n + (e - at) ≤ 65535 → m ≡ length (each 0x20 itself (treeAt s at e)) → n + m ≤ 65535
-in-room s at e n m room q = let z = few s at e 0x20 0x30 in omega arith
+  pub stop-inside : h .stop ≤ length s
+  stop-inside = H .inside
 
-module _ (rd : Reading) (s w : List ℕ) (at e n : ℕ) (room : n + (e - at) ≤ 65535) where
-  pub in-first : n ≤ 65535
-  in-first = omega arith
+  pub types-end : h .entities ≡ h .first + length (each 0x20 itself (treeAt s (h .start) (h .stop)))
+  unfolding houseAt typesIn
+  types-end = ap (λ (i : House). i .entities) (H .is)
 
-  module _ (o : Sought) (q : o ≡ lookIn rd w (each 0x20 itsName (treeAt s at e)) n) where
-    types-small : Small o
-    types-small = let z = few s at e 0x20 0x30 in let y = many 0x20 (treeAt s at e) in small-look rd w (each 0x20 itsName (treeAt s at e)) n (omega arith) o q
+  pub entities-end : h .past ≡ h .entities + length (each 0x30 itself (treeAt s (h .start) (h .stop)))
+  unfolding houseAt sizeIn typesIn
+  entities-end =
+      let z : h .past ≡ h .first + (length (each 0x20 itself (treeAt s (h .start) (h .stop))) + length (each 0x30 itself (treeAt s (h .start) (h .stop)))) = ap (λ (i : House). i .past) (H .is) in
+      omega (arith, types-end)
 
-    pub in-found : (k : ℕ) → o ≡ At k → o ≡ inSchema rd w (treeAt s at e) n
-    unfolding inSchema orOn
-    in-found k f = f ∙ rw (sym q ∙ f) refl
+  pub past-small : h .past ≤ 65535
+  past-small = let z = few s (h .start) (h .stop) 0x20 0x30 in omega (arith, types-end, entities-end, H .small)
 
-    pub in-small : (k : ℕ) → o ≡ At k → Small o
-    in-small k f = types-small
+  pub entities-small : h .entities ≤ 65535
+  entities-small = omega (arith, entities-end, past-small)
 
-    module _ (k : ℕ) (f : o ≡ Past k) where
-      past : k ≡ n + length (each 0x20 itself (treeAt s at e))
-      past = let z = few s at e 0x20 0x30 in let y = many 0x20 (treeAt s at e) in (bounded rd w (each 0x20 itsName (treeAt s at e)) n 65535 (omega arith) k .1 (sym q ∙ f)) ∙ ap (λ (m : ℕ). n + m) y
+  module _ (rd : Reading) (w : List ℕ) (o : Sought) where
+    abbrev inside : Tree
+    inside = treeAt s (h .start) (h .stop)
 
-      pub in-second : k ≤ 65535
-      in-second = let z = few s at e 0x20 0x30 in omega (arith, past)
+    module _ (q : o ≡ lookIn rd w (each 0x20 itsName inside) (h .first)) where
+      pub type-is : o ≡ typeIn rd w inside (h .first)
+      unfolding typeIn
+      type-is = q
 
-      module _ (o2 : Sought) (q2 : o2 ≡ lookIn rd w (each 0x30 itsName (treeAt s at e)) k) where
-        pub in-rest : o2 ≡ inSchema rd w (treeAt s at e) n
-        unfolding inSchema orOn
-        in-rest = q2 ∙ rw (sym q ∙ f) refl
+      pub type-small : Small o
+      type-small = let z = each-length 0x20 itsName itself inside in small-look rd w (each 0x20 itsName inside) (h .first) (h .entities) (omega (arith, types-end)) entities-small o q
 
-        pub in-rest-small : Small o2
-        in-rest-small = let z = few s at e 0x20 0x30 in let y = many 0x30 (treeAt s at e) in small-look rd w (each 0x30 itsName (treeAt s at e)) k (omega (arith, past)) o2 q2
+    module _ (q : o ≡ lookIn rd w (each 0x30 itsName inside) (h .entities)) where
+      pub entity-is : o ≡ entityIn rd w inside (h .first)
+      unfolding entityIn typesIn
+      entity-is = q ∙ ap (lookIn rd w (each 0x30 itsName inside)) types-end
 
-  module _ (kind : ScopeType) (k : ℕ) (kk : k ≡ placeOf kind) (o : Sought) where
-    pub kind-type : k ≡ 9 → o ≡ lookIn rd w (each 0x20 itsName (treeAt s at e)) n → o ≡ inKind rd kind w (treeAt s at e) n
+      pub entity-small : Small o
+      entity-small = let z = each-length 0x30 itsName itself inside in small-look rd w (each 0x30 itsName inside) (h .entities) (h .past) (omega (arith, entities-end)) past-small o q
+
+pub ruleset searching = (start-order, stop-inside, types-end, entities-end, past-small, entities-small, type-is, type-small, entity-is, entity-small, nests-type, nests-entity)
+
+module _ (rd : Reading) (w : List ℕ) (g : Tree) (n : ℕ) (o : Sought) where
+  pub in-type : o ≡ typeIn rd w g n → (k : ℕ) → o ≡ At k → o ≡ inSchema rd w g n
+  unfolding inSchema orSought
+  in-type q k f = f ∙ rw (sym q ∙ f) refl
+
+  pub in-entity : (p : Sought) → p ≡ typeIn rd w g n → (k : ℕ) → p ≡ Past k → o ≡ entityIn rd w g n → o ≡ inSchema rd w g n
+  unfolding inSchema orSought
+  in-entity p q k f e = e ∙ rw (sym q ∙ f) refl
+
+  module _ (kind : ScopeType) (k : ℕ) (kk : k ≡ placeOf kind) where
+    pub kind-type : k ≡ 9 → o ≡ typeIn rd w g n → o ≡ inKind rd kind w g n
     unfolding inKind
     kind-type h q = q ∙ sym (rw (← kk, eq-eqb k 9 h) refl)
 
-    pub kind-type-small : k ≡ 9 → o ≡ lookIn rd w (each 0x20 itsName (treeAt s at e)) n → Small o
-    kind-type-small h q = types-small o q
+    pub kind-entity : (k ≡ 9 → ⊥) → k ≡ 0 → o ≡ entityIn rd w g n → o ≡ inKind rd kind w g n
+    unfolding inKind
+    kind-entity d h q = q ∙ sym (rw (← kk, ne-eqb k 9 d, eq-eqb k 0 h) refl)
 
-    module _ (d : k ≡ 9 → ⊥) (h : k ≡ 0) (m : ℕ) (mm : m ≡ length (each 0x20 itself (treeAt s at e))) (q : o ≡ lookIn rd w (each 0x30 itsName (treeAt s at e)) (n + m)) where
-      pub kind-entity : o ≡ inKind rd kind w (treeAt s at e) n
-      unfolding inKind
-      kind-entity = q ∙ sym (rw (← kk, ne-eqb k 9 d, eq-eqb k 0 h, mm) refl)
+pub kind-other : (rd : Reading) (w : List ℕ) (g : Tree) (n : ℕ) (kind : ScopeType) (k : ℕ) → k ≡ placeOf kind → (k ≡ 9 → ⊥) → (k ≡ 0 → ⊥) → Past 0 ≡ inKind rd kind w g n
+unfolding inKind
+kind-other rd w g n kind k kk d h = sym (rw (← kk, ne-eqb k 9 d, ne-eqb k 0 h) refl)
 
-      pub kind-entity-small : Small o
-      kind-entity-small = let z = few s at e 0x20 0x30 in let y = many 0x30 (treeAt s at e) in small-look rd w (each 0x30 itsName (treeAt s at e)) (n + m) (omega arith) o q
+pub ruleset insides = (in-type, in-entity)
 
-  pub kind-other : (kind : ScopeType) (k : ℕ) → k ≡ placeOf kind → (k ≡ 9 → ⊥) → (k ≡ 0 → ⊥) → Past 0 ≡ inKind rd kind w (treeAt s at e) n
-  unfolding inKind
-  kind-other kind k kk d h = sym (rw (← kk, ne-eqb k 9 d, ne-eqb k 0 h) refl)
-
-pub ruleset insides = (in-first, in-found, in-small, in-second, in-rest, in-rest-small, nests-type, nests-entity)
-
-pub ruleset kinds = (in-first, in-room, kind-type, kind-type-small, kind-entity, kind-entity-small, kind-other, nests-type, nests-entity)
+pub ruleset kinds = (kind-type, kind-entity, kind-other)
 
 -- ---- from schema to schema, by what `field_at` answers
 
@@ -142,59 +203,89 @@ module _ (s : List ℕ) (from e : ℕ) (h : Header) (y : h ≡ fieldAt s from e)
 
 -- ---- the last schema of a name
 
-abbrev so-named : Reading → List ℕ → Entry → Bool
+abbrev pub so-named : Reading → List ℕ → Entry → Bool
 so-named rd sc e = sameScope rd (e .scope) (schemaScope sc)
 
-pub record Seeking (rd : Reading) (s sc : List ℕ) (e n from : ℕ) (best : home.Home) (all : Option Entry) : Type 0 where
+pub record Seeking (rd : Reading) (s sc : List ℕ) (e n from : ℕ) (best : home.Home) (alone : Bool) : Type 0 where
   pub within : from ≤ e
   pub whole : e ≡ length s
   pub short : e ≤ 65535
   pub small : n ≤ from
   pub entry : Option Entry
   pub houses : Houses s best entry
-  pub rest : or (last (so-named rd sc) (entriesFrom n (schemasOf (treeAt s from e)))) entry ≡ all
+  pub rest : or (last (so-named rd sc) (entriesFrom n (schemasOf (treeAt s from e)))) entry ≡ last (so-named rd sc) (entriesFrom 0 (schemasIn s))
+  -- how many had the name
+  pub tally : ℕ
+  pub fresh : alone ≡ eqb tally 0
+  pub only : Alone tally best
+  pub left : tally + namesakes rd sc (schemasOf (treeAt s from e)) ≡ namesakes rd sc (schemasIn s)
 
-pub seek-start : (rd : Reading) (s sc : List ℕ) → length s ≤ 65535 → Seeking rd s sc (length s) 0 0 home.the-variants.Nowhere (last (so-named rd sc) (entriesFrom 0 (schemasIn s)))
+pub seek-start : (rd : Reading) (s sc : List ℕ) → length s ≤ 65535 → Seeking rd s sc (length s) 0 0 home.the-variants.Nowhere true
 unfolding schemasIn treeOf
-seek-start rd s sc h = record { within = omega arith; whole = refl; short = h; small = omega arith; entry = none; houses = refl; rest = or-none (last (so-named rd sc) (entriesFrom 0 (schemasOf (treeAt s 0 (length s))))) }
+seek-start rd s sc h =
+    record { within = omega arith; whole = refl; short = h; small = omega arith; entry = none; houses = refl; rest = or-none (last (so-named rd sc) (entriesFrom 0 (schemasOf (treeAt s 0 (length s))))); tally = 0; fresh = refl; only = tt; left = omega arith }
 
-module _ (rd : Reading) (s sc : List ℕ) (e n from : ℕ) (best : home.Home) (all : Option Entry) (f : Seeking rd s sc e n from best all) where
+one-on : (k : ℕ) → eqb k 0 ≡ eqb (suc k) 1
+one-on zero = refl
+one-on (suc k) = ne-eqb (suc k) 0 (λ e. omega (arith, e)) ∙ sym (ne-eqb (suc (suc k)) 1 (λ e. omega (arith, e)))
+
+module _ (rd : Reading) (s sc : List ℕ) (e n from : ℕ) (best : home.Home) (alone : Bool) (f : Seeking rd s sc e n from best alone) where
   pub seek-end : e ≤ length s
   seek-end = omega (arith, f .whole)
 
+  pub seek-first : n ≤ 65535
+  seek-first = omega (arith, f .small, f .within, f .short)
+
   module _ (h : Header) (y : h ≡ fieldAt s from e) where
-    pub seek-none : h ≡ Passes → Houses s best all
-    unfolding last entriesFrom or
-    seek-none q = subst (Houses s best) (sym (ap (λ (l : List Schema). or (last (so-named rd sc) (entriesFrom n l)) (f .entry)) (no-schemas s from e h y q)) ∙ f .rest) (f .houses)
+    pub seek-none : h ≡ Passes → HomeOf rd s sc best
+    unfolding last entriesFrom or namesakes
+    seek-none q =
+        let z : namesakes rd sc (schemasOf (treeAt s from e)) ≡ 0 = ap (namesakes rd sc) (no-schemas s from e h y q) in
+        let k : f .tally ≡ namesakes rd sc (schemasIn s) = omega (arith, f .left) in
+        record {
+          houses = subst (Houses s best) (sym (ap (λ (l : List Schema). or (last (so-named rd sc) (entriesFrom n l)) (f .entry)) (no-schemas s from e h y q)) ∙ f .rest) (f .houses);
+          only = subst (λ (i : ℕ). Alone i best) k (f .only);
+        }
 
     module _ (t a b : ℕ) (q : h ≡ Field t a b) where
       pub seek-there : b ≤ length s
       seek-there = let i = field-in s from e h y t a b q in omega (arith, f .whole)
 
-      pub seek-close : b ≤ 65535
-      seek-close = let i = field-in s from e h y t a b q in omega (arith, f .short)
+      pub seek-skip : (t ≡ 1 → ⊥) → Seeking rd s sc e n b best alone
+      seek-skip d =
+          record {
+            within = field-in s from e h y t a b q;
+            whole = f .whole;
+            short = f .short;
+            small = (let i = field-on s from e h y t a b q in omega (arith, f .small));
+            entry = f .entry;
+            houses = f .houses;
+            rest = sym (ap (λ (l : List Schema). or (last (so-named rd sc) (entriesFrom n l)) (f .entry)) (no-schema-here s from e h y t a b q d)) ∙ f .rest;
+            tally = f .tally;
+            fresh = f .fresh;
+            only = f .only;
+            left = sym (ap (λ (l : List Schema). f .tally + namesakes rd sc l) (no-schema-here s from e h y t a b q d)) ∙ f .left;
+          }
 
-      pub seek-skip : (t ≡ 1 → ⊥) → Seeking rd s sc e n b best all
-      seek-skip d = record { within = field-in s from e h y t a b q; whole = f .whole; short = f .short; small = (let i = field-on s from e h y t a b q in omega (arith, f .small)); entry = f .entry; houses = f .houses; rest = sym (ap (λ (l : List Schema). or (last (so-named rd sc) (entriesFrom n l)) (f .entry)) (no-schema-here s from e h y t a b q d)) ∙ f .rest }
-
-      module _ (k : t ≡ 1) (m : ℕ) (mm : m ≡ sizeIn (treeAt s a b)) where
+      module _ (k : t ≡ 1) (hs : House) (hh : hs ≡ houseAt s a b n) where
         abbrev x : Schema
         x = schemaOf from (treeAt s a b)
 
-        abbrev left : ℕ → Option Entry
-        left i = last (so-named rd sc) (entriesFrom i (schemasOf (treeAt s b e)))
+        abbrev later : ℕ → Option Entry
+        later i = last (so-named rd sc) (entriesFrom i (schemasOf (treeAt s b e)))
 
-        pub seek-few : n + m ≤ 65535
-        seek-few = let z = still-few s from e h y t a b q n (f .small) in let i = field-in s from e h y t a b q in omega (arith, f .short)
+        behind : hs .past ≡ n + length (declaredBy x)
+        unfolding houseAt
+        behind = ap (λ (i : House). i .past) hh ∙ ap (λ (i : ℕ). n + i) (size-is from (treeAt s a b))
 
-        few-on : n + m ≤ b
-        few-on = let z = still-few s from e h y t a b q n (f .small) in omega arith
+        few-on : hs .past ≤ b
+        few-on = let z = still-few s from e h y t a b q n (f .small) in let v = size-is from (treeAt s a b) in omega (arith, behind)
 
-        turn : (o : Option Entry) → cond (sameScope rd (scopeIn x) (schemaScope sc)) (some (entryOf n x)) none ≡ o → or (left (n + m)) (or o (f .entry)) ≡ all
+        turn : (o : Option Entry) → cond (sameScope rd (scopeIn x) (schemaScope sc)) (some (entryOf n x)) none ≡ o → or (later (hs .past)) (or o (f .entry)) ≡ last (so-named rd sc) (entriesFrom 0 (schemasIn s))
         unfolding last entriesFrom entryOf
         turn o u =
-            sym (or-assoc (left (n + m)) o (f .entry))
-            ∙ ap₂ (λ (i : ℕ) (v : Option Entry). or (or (left (n + i)) v) (f .entry)) (mm ∙ size-is from (treeAt s a b)) (sym u)
+            sym (or-assoc (later (hs .past)) o (f .entry))
+            ∙ ap₂ (λ (i : ℕ) (v : Option Entry). or (or (later i) v) (f .entry)) behind (sym u)
             ∙ sym (ap (λ (l : List Schema). or (last (so-named rd sc) (entriesFrom n l)) (f .entry)) (schema-here s from e h y t a b q k)) ∙ f .rest
 
         module _ (z : Bool) (zz : z ≡ sameName rd (nameOf (treeAt s a b) .bytes) sc) where
@@ -202,15 +293,36 @@ module _ (rd : Reading) (s sc : List ℕ) (e n from : ℕ) (best : home.Home) (a
           unfolding schemaOf
           same = one-scope rd x sc ∙ sym zz
 
-          pub seek-miss : z ≡ false → Seeking rd s sc e (n + m) b best all
-          unfolding or
-          seek-miss o = record { within = field-in s from e h y t a b q; whole = f .whole; short = f .short; small = few-on; entry = f .entry; houses = f .houses; rest = turn none (rw (same ∙ o) refl) }
+          counted : f .tally + cond z (suc (namesakes rd sc (schemasOf (treeAt s b e)))) (namesakes rd sc (schemasOf (treeAt s b e))) ≡ namesakes rd sc (schemasIn s)
+          unfolding namesakes schemaOf
+          counted = rw zz (sym (ap (λ (l : List Schema). f .tally + namesakes rd sc l) (schema-here s from e h y t a b q k)) ∙ f .left)
 
-          pub seek-hit : z ≡ true → Seeking rd s sc e (n + m) b (home.the-variants.At n a b) all
+          pub seek-miss : z ≡ false → Seeking rd s sc e (hs .past) b best alone
           unfolding or
-          seek-hit o = record { within = field-in s from e h y t a b q; whole = f .whole; short = f .short; small = few-on; entry = some (entryOf n x); houses = (from, refl, field-order s from e h y t a b q, seek-there, room-for s from e h y t a b q n (f .small) (f .short)); rest = turn (some (entryOf n x)) (rw (same ∙ o) refl) }
+          seek-miss o = record { within = field-in s from e h y t a b q; whole = f .whole; short = f .short; small = few-on; entry = f .entry; houses = f .houses; rest = turn none (rw (same ∙ o) refl); tally = f .tally; fresh = f .fresh; only = f .only; left = rw o at counted }
 
-pub ruleset seeking = (seek-start, seek-end, seek-none, seek-there, seek-close, seek-skip, seek-few, seek-miss, seek-hit)
+          housed : Houses s (home.the-variants.At hs alone) (some (entryOf n x))
+          unfolding houseAt
+          housed = subst (λ (i : House). Houses s (home.the-variants.At i alone) (some (entryOf n x))) (sym hh) (from, refl, is-house s a b n (field-order s from e h y t a b q) seek-there (room-for s from e h y t a b q n (f .small) (f .short)))
+
+          pub seek-hit : z ≡ true → Seeking rd s sc e (hs .past) b (home.the-variants.At hs alone) false
+          unfolding or
+          seek-hit o =
+              record {
+                within = field-in s from e h y t a b q;
+                whole = f .whole;
+                short = f .short;
+                small = few-on;
+                entry = some (entryOf n x);
+                houses = housed;
+                rest = turn (some (entryOf n x)) (rw (same ∙ o) refl);
+                tally = suc (f .tally);
+                fresh = sym (ne-eqb (suc (f .tally)) 0 (λ e. omega (arith, e)));
+                only = f .fresh ∙ one-on (f .tally);
+                left = (let v : f .tally + suc (namesakes rd sc (schemasOf (treeAt s b e))) ≡ namesakes rd sc (schemasIn s) = rw o at counted in omega arith);
+              }
+
+pub ruleset seeking = (seek-start, seek-end, seek-first, seek-none, seek-there, seek-skip, seek-miss, seek-hit)
 
 -- ---- the first declaration with a path
 
@@ -240,6 +352,9 @@ module _ (rd : Reading) (s sc : List ℕ) (kind : ScopeType) (w : List ℕ) (e n
   pub get-end : e ≤ length s
   get-end = omega (arith, f .whole)
 
+  pub get-first : n ≤ 65535
+  get-first = omega (arith, f .small, f .within, f .short)
+
   module _ (h : Header) (y : h ≡ fieldAt s from e) where
     pub get-none : h ≡ Passes → Past 0 ≡ r
     unfolding soughtOf first allOf entriesFrom
@@ -248,12 +363,6 @@ module _ (rd : Reading) (s sc : List ℕ) (kind : ScopeType) (w : List ℕ) (e n
     module _ (t a b : ℕ) (q : h ≡ Field t a b) where
       pub get-there : b ≤ length s
       get-there = let i = field-in s from e h y t a b q in omega (arith, f .whole)
-
-      pub get-close : b ≤ 65535
-      get-close = let i = field-in s from e h y t a b q in omega (arith, f .short)
-
-      pub get-room : n + (b - a) ≤ 65535
-      get-room = room-for s from e h y t a b q n (f .small) (f .short)
 
       pub get-skip : (t ≡ 1 → ⊥) → Getting rd s sc kind w e n b r
       get-skip d = record { within = field-in s from e h y t a b q; whole = f .whole; short = f .short; small = (let i = field-on s from e h y t a b q in omega (arith, f .small)); rest = sym (ap (λ (l : List Schema). soughtOf (first (led-to rd sc kind w) (allOf (entriesFrom n l)))) (no-schema-here s from e h y t a b q d)) ∙ f .rest }
@@ -271,24 +380,30 @@ module _ (rd : Reading) (s sc : List ℕ) (kind : ScopeType) (w : List ℕ) (e n
             ap soughtOf (sym (first-append (led-to rd sc kind w) (numbered this n (declaredBy this)) (allOf (entriesFrom (n + length (declaredBy this)) (schemasOf (treeAt s b e))))))
             ∙ sym (ap (λ (l : List Schema). soughtOf (first (led-to rd sc kind w) (allOf (entriesFrom n l)))) (schema-here s from e h y t a b q k)) ∙ f .rest
 
-        module _ (z : Bool) (zz : z ≡ sameName rd (nameOf (treeAt s a b) .bytes) sc) where
-          pub get-found : z ≡ true → (v : Sought) → v ≡ inKind rd kind w (treeAt s a b) n → (j : ℕ) → v ≡ At j → v ≡ r
-          get-found o v vv j g = found-at v (first (led-to rd sc kind w) (numbered this n (declaredBy this))) (ap found vv ∙ in-kind-means rd sc kind w from (treeAt s a b) n (sym zz ∙ o)) j g (those (n + length (declaredBy this))) ∙ parted
+        module _ (hs : House) (hh : hs ≡ houseAt s a b n) where
+          pub get-house : IsHouse s hs
+          get-house = subst (IsHouse s) (sym hh) (is-house s a b n (field-order s from e h y t a b q) get-there (room-for s from e h y t a b q n (f .small) (f .short)))
 
-          module _ (m : ℕ) (mm : m ≡ sizeIn (treeAt s a b)) where
-            pub get-few : n + m ≤ 65535
-            get-few = let u = still-few s from e h y t a b q n (f .small) in let i = field-in s from e h y t a b q in omega (arith, f .short)
+          go-on : first (led-to rd sc kind w) (numbered this n (declaredBy this)) ≡ none → Getting rd s sc kind w e (hs .past) b r
+          unfolding or houseAt
+          go-on u =
+              let i : hs .past ≡ n + length (declaredBy this) = ap (λ (i : House). i .past) hh ∙ ap (λ (i : ℕ). n + i) (size-is from (treeAt s a b)) in
+              record { within = field-in s from e h y t a b q; whole = f .whole; short = f .short; small = (let v = still-few s from e h y t a b q n (f .small) in let j = size-is from (treeAt s a b) in omega arith); rest = ap (λ (i : ℕ). soughtOf (those i)) i ∙ (rw u at parted) }
 
-            go-on : first (led-to rd sc kind w) (numbered this n (declaredBy this)) ≡ none → Getting rd s sc kind w e (n + m) b r
-            unfolding or
-            go-on u =
-                record { within = field-in s from e h y t a b q; whole = f .whole; short = f .short; small = (let v = still-few s from e h y t a b q n (f .small) in omega arith); rest = ap (λ (i : ℕ). soughtOf (those (n + i))) (mm ∙ size-is from (treeAt s a b)) ∙ (rw u at parted) }
-
-            pub get-miss : z ≡ false → Getting rd s sc kind w e (n + m) b r
+          module _ (z : Bool) (zz : z ≡ sameName rd (nameOf (treeAt s a b) .bytes) sc) where
+            pub get-miss : z ≡ false → Getting rd s sc kind w e (hs .past) b r
             unfolding schemaOf
             get-miss o = go-on (other-schema rd sc kind w this n (sym zz ∙ o))
 
-            pub get-next : z ≡ true → (v : Sought) → v ≡ inKind rd kind w (treeAt s a b) n → (j : ℕ) → v ≡ Past j → Getting rd s sc kind w e (n + m) b r
-            get-next o v vv j g = go-on (lost-at v (first (led-to rd sc kind w) (numbered this n (declaredBy this))) (ap found vv ∙ in-kind-means rd sc kind w from (treeAt s a b) n (sym zz ∙ o)) j g)
+            module _ (o : z ≡ true) (v : Sought) (vv : v ≡ inKind rd kind w (treeAt s (hs .start) (hs .stop)) (hs .first)) (j : ℕ) where
+              means : found v ≡ numberOf (first (led-to rd sc kind w) (numbered this n (declaredBy this)))
+              unfolding houseAt
+              means = ap found (vv ∙ ap (λ (i : House). inKind rd kind w (treeAt s (i .start) (i .stop)) (i .first)) hh) ∙ in-kind-means rd sc kind w from (treeAt s a b) n (sym zz ∙ o)
 
-pub ruleset getting = (get-start, get-end, get-none, get-there, get-close, get-room, get-skip, get-found, get-few, get-miss, get-next)
+              pub get-found : v ≡ At j → v ≡ r
+              get-found g = found-at v (first (led-to rd sc kind w) (numbered this n (declaredBy this))) means j g (those (n + length (declaredBy this))) ∙ parted
+
+              pub get-next : v ≡ Past j → Getting rd s sc kind w e (hs .past) b r
+              get-next g = go-on (lost-at v (first (led-to rd sc kind w) (numbered this n (declaredBy this))) means j g)
+
+pub ruleset getting = (get-start, get-end, get-first, get-none, get-there, get-skip, get-house, get-found, get-miss, get-next)

@@ -1,5 +1,5 @@
 -- What the walks over schemas answer: names and kinds as the code has them, and the numbers found.
-use Prim.Native.Nat.{ℕ, _+_, _-_, _≤_}
+use Prim.Native.Nat.{ℕ, suc, _+_, _-_, _≤_}
 use mathlib.Core.Path.{_≡_}
 use mathlib.Core.List.{List, [], _∷_}
 use mathlib.Core.Option.{Option, none, some}
@@ -10,12 +10,15 @@ use Rattle.sheet.specs.MeaningReading.{Reading}
 use Rattle.sheet.specs.MeaningName.{Name}
 use Rattle.schemas.specs.MeaningTree.{Tree, treeAt}
 use Rattle.schemas.specs.MeaningSchemas.{Schema, each, schemaOf}
-use Rattle.scope.specs.MeaningScope.{ScopeType, placeOf, Scope, Path}
+use Rattle.scope.specs.MeaningNames.{sameName}
+use Rattle.scope.specs.MeaningScope.{ScopeType, placeOf, Scope, Path, sameScope}
 use Rattle.scope.specs.MeaningScope.ScopeType.{schema}
 use Rattle.lookup.specs.MirrorLookup.{itsName, itself, lookIn}
 use Rattle.lookup.specs.declared.Sought.{Sought}
 use Rattle.lookup.specs.declared.Sought.the-variants.{At, Past}
-use Rattle.namespace.specs.MeaningNamespace.{Declaration, scopeIn, declaredBy, numbered, Entry, declarationFor, resolved}
+use Rattle.namespace.specs.MeaningNamespace.{Declaration, scopeIn, declaredBy, numbered, Entry, entriesFrom, last, declarationFor, resolved}
+use Rattle.namespace.specs.MeaningOrder.{schemasIn}
+use Rattle.namespace.specs.declared.House.{House}
 use Rattle.namespace.specs.declared.Home as home
 
 -- ---- what the code has: the bytes of a name, wherever they stand
@@ -45,32 +48,68 @@ soughtOf (some d) = At (d .number)
 
 -- ---- in one schema, by its fields
 
-unfoldable pub sizeIn : Tree → ℕ
-sizeIn g = length (each 0x20 itself g) + length (each 0x30 itself g)
+unfoldable pub typesIn : Tree → ℕ
+typesIn g = length (each 0x20 itself g)
 
-unfoldable pub orOn : Sought → (ℕ → Sought) → Sought
-orOn (At k) go = At k
-orOn (Past k) go = go k
+unfoldable pub sizeIn : Tree → ℕ
+sizeIn g = typesIn g + length (each 0x30 itself g)
+
+-- the first type with an equal name
+unfoldable pub typeIn : Reading → List ℕ → Tree → ℕ → Sought
+typeIn rd w g n = lookIn rd w (each 0x20 itsName g) n
+
+-- the first entity with an equal name: entities are numbered behind types
+unfoldable pub entityIn : Reading → List ℕ → Tree → ℕ → Sought
+entityIn rd w g n = lookIn rd w (each 0x30 itsName g) (n + typesIn g)
+
+unfoldable pub orSought : Sought → Sought → Sought
+orSought (At k) o = At k
+orSought (Past k) o = o
 
 -- the first equal name: types, then entities
 unfoldable pub inSchema : Reading → List ℕ → Tree → ℕ → Sought
-inSchema rd w g n = orOn (lookIn rd w (each 0x20 itsName g) n) (λ k. lookIn rd w (each 0x30 itsName g) k)
+inSchema rd w g n = orSought (typeIn rd w g n) (entityIn rd w g n)
 
 -- the first equal name of a kind
 unfoldable pub inKind : Reading → ScopeType → List ℕ → Tree → ℕ → Sought
-inKind rd k w g n =
-    cond (eqb (placeOf k) 9) (lookIn rd w (each 0x20 itsName g) n)
-    (cond (eqb (placeOf k) 0) (lookIn rd w (each 0x30 itsName g) (n + length (each 0x20 itself g))) (Past 0))
+inKind rd k w g n = cond (eqb (placeOf k) 9) (typeIn rd w g n) (cond (eqb (placeOf k) 0) (entityIn rd w g n) (Past 0))
+
+-- ---- a schema's house
+
+-- that of the schema with its fields between two places and its numbers from n on
+unfoldable pub houseAt : List ℕ → (a b n : ℕ) → House
+houseAt s a b n = record { first = n; entities = n + typesIn (treeAt s a b); past = n + sizeIn (treeAt s a b); start = a; stop = b }
+
+-- it is one of these, and its numbers are small
+pub record IsHouse (s : List ℕ) (h : House) : Type 0 where
+  pub is : h ≡ houseAt s (h .start) (h .stop) (h .first)
+  pub order : h .start ≤ h .stop
+  pub inside : h .stop ≤ length s
+  pub small : h .first + (h .stop - h .start) ≤ 65535
 
 -- ---- the last schema of a name
 
 unfoldable pub entryOf : ℕ → Schema → Entry
 entryOf n x = record { scope = scopeIn x; items = numbered x n (declaredBy x) }
 
--- what stands there is this entry, and its numbers are small
+-- what stands there is this entry
 abbrev pub Houses : List ℕ → home.Home → Option Entry → Type 0
 Houses s home.the-variants.Nowhere o = o ≡ none
-Houses s (home.the-variants.At n a b) o = (p : ℕ) × (o ≡ some (entryOf n (schemaOf p (treeAt s a b)))) × (a ≤ b) × (b ≤ length s) × (n + (b - a) ≤ 65535)
+Houses s (home.the-variants.At h alone) o = (p : ℕ) × (o ≡ some (entryOf (h .first) (schemaOf p (treeAt s (h .start) (h .stop))))) × IsHouse s h
+
+-- how many schemas have the name
+unfoldable pub namesakes : Reading → List ℕ → List Schema → ℕ
+namesakes rd sc [] = 0
+namesakes rd sc (x ∷ xs) = cond (sameName rd (x .name .bytes) sc) (suc (namesakes rd sc xs)) (namesakes rd sc xs)
+
+abbrev pub Alone : ℕ → home.Home → Type 0
+Alone k home.the-variants.Nowhere = Unit {0}
+Alone k (home.the-variants.At h alone) = alone ≡ eqb k 1
+
+-- the home of what is declared in a scope: the last schema of the name, and whether it is the only one
+pub record HomeOf (rd : Reading) (s sc : List ℕ) (h : home.Home) : Type 0 where
+  pub houses : Houses s h (last (λ e. sameScope rd (e .scope) (schemaScope sc)) (entriesFrom 0 (schemasIn s)))
+  pub only : Alone (namesakes rd sc (schemasIn s)) h
 
 -- ---- what a name means in the scope of a schema, by number: the name is resolved, and the first declaration with that path taken
 

@@ -3,24 +3,22 @@
 // The declarations of a sheet by number: `resolve`, `get`, `as_path`, and the order of refusals of every question on a sheet.
 ghost use mathlib.Core.Path.{_≡_};
 ghost use mathlib.Core.Bool.{true};
-ghost use Prim.Native.Nat.{_≤_, _+_, _-_};
+ghost use Prim.Native.Nat.{_≤_};
 ghost use lib.ListN.{length};
 ghost use Rattle.refusal.specs.MeaningAnswer.{done};
 ghost use Rattle.sheet.specs.MeaningReading.Reading.{rust};
 ghost use Rattle.sheet.specs.Told.{toldReading};
 ghost use Rattle.schemas.specs.MeaningTree.{treeAt};
-ghost use Rattle.scope.specs.MeaningScope.{sameScope};
 ghost use Rattle.scope.specs.Told.{toldKind, toldScope, toldPath};
 ghost use Rattle.scope.specs.MirrorScope.{Spans};
-ghost use Rattle.namespace.specs.MeaningNamespace.{entriesFrom, last, declarations, declarationFor, resolved, schemaName, itemName};
+ghost use Rattle.namespace.specs.MeaningNamespace.{declarations, declarationFor, resolved, schemaName, itemName};
 ghost use Rattle.namespace.specs.MeaningOrder.{schemasIn, Answers};
 ghost use Rattle.namespace.specs.Told.{toldVerdict};
 ghost use Rattle.namespace.specs.Promises.{Promise-resolve, Promise-get, Promise-part, Promise-path};
-ghost use Rattle.namespace.specs.MirrorNamespace.{schemaScope, pathTo, Small, soughtOf, sizeIn, inSchema, inKind, Houses, meantIn};
+ghost use Rattle.namespace.specs.MirrorNamespace.{pathTo, Small, soughtOf, houseAt, IsHouse, typeIn, entityIn, inSchema, inKind, HomeOf, meantIn};
 ghost use Rattle.namespace.specs.MirrorDeclared.{StandsAt, InFields};
 use lookup::Place;
 use lookup::Sought;
-use lookup::count;
 use lookup::has_name;
 use lookup::look;
 use lookup::name_of;
@@ -44,13 +42,18 @@ pub enum Found {
     Refused(Refusal),
 }
 
-// Where the last schema of a name stands, and the number of its first declaration.
+// A schema: the numbers of its first declaration, of its first entity and behind its last, and where its fields stand.
+pub struct House {
+    pub first: usize,
+    pub entities: usize,
+    pub past: usize,
+    pub start: usize,
+    pub stop: usize,
+}
+
+// The last schema of a name, and whether no other has it.
 pub enum Home {
-    At {
-        first: usize,
-        start: usize,
-        stop: usize,
-    },
+    At { house: House, alone: bool },
     Nowhere,
 }
 
@@ -87,61 +90,105 @@ pub fn cleared(reading: Reading, sheet: &[u8], long: bool, asked: Verdict) -> Ve
 
 // ---- Walks over one schema.
 
-// How many declarations it has.
-fn size(s: &[u8], at: usize, end: usize) -> usize
-    requires { ⌜ (at ≤ end) × (end ≤ length (now s)) × (end ≤ 65535) ⌝ }
-    ensures { λ r. ⌜ (r ≡ sizeIn (treeAt (now (s .entry)) at end)) × (r ≤ 65535) ⌝ }
+// Its house, from the number of its first declaration on.
+fn house_at(s: &[u8], at: usize, end: usize, first: usize) -> House
+    requires { ⌜ (at ≤ end) × (end ≤ length (now s)) × (first ≤ 65535) ⌝ }
+    ensures { λ r. ⌜ r ≡ houseAt (now (s .entry)) at end first ⌝ }
 {
-    let types = count(s, at, end, 0x20);
-    let entities = count(s, at, end, 0x30);
-    types + entities
+    let mut entities = first;
+    let mut past = first;
+    let mut from = at;
+    loop {
+        let Header::Field {
+            tag,
+            start: _,
+            stop,
+        } = field_at(s, from, end)
+        else {
+            return House {
+                first,
+                entities,
+                past,
+                start: at,
+                stop: end,
+            };
+        };
+        if tag == 0x20 {
+            entities += 1;
+            past += 1;
+            from = stop;
+        } else {
+            if tag == 0x30 {
+                past += 1;
+                from = stop;
+            } else {
+                from = stop;
+            }
+        }
+    }
+}
+
+// The number of the first type with an equal name.
+fn type_in(reading: Reading, s: &[u8], house: House, name: &[u8]) -> Sought
+    requires { ⌜ IsHouse (now s) house ⌝ }
+    ensures { λ r. ⌜ (r ≡ typeIn (toldReading reading) (now (name .entry)) (treeAt (now (s .entry)) (house .start) (house .stop)) (house .first)) × Small r ⌝ }
+{
+    let first = house.first;
+    let entities = house.entities;
+    let start = house.start;
+    let stop = house.stop;
+    look(reading, s, start, stop, 0x20, name, first, entities)
+}
+
+// The number of the first entity with an equal name.
+fn entity_in(reading: Reading, s: &[u8], house: House, name: &[u8]) -> Sought
+    requires { ⌜ IsHouse (now s) house ⌝ }
+    ensures { λ r. ⌜ (r ≡ entityIn (toldReading reading) (now (name .entry)) (treeAt (now (s .entry)) (house .start) (house .stop)) (house .first)) × Small r ⌝ }
+{
+    let entities = house.entities;
+    let past = house.past;
+    let start = house.start;
+    let stop = house.stop;
+    look(reading, s, start, stop, 0x30, name, entities, past)
 }
 
 // The number of the first equal name, types first.
-fn in_schema(reading: Reading, s: &[u8], at: usize, end: usize, name: &[u8], first: usize) -> Sought
-    requires { ⌜ (at ≤ end) × (end ≤ length (now s)) × (first + (end - at) ≤ 65535) ⌝ }
-    ensures { λ r. ⌜ (r ≡ inSchema (toldReading reading) (now (name .entry)) (treeAt (now (s .entry)) at end) first) × Small r ⌝ }
+fn in_schema(reading: Reading, s: &[u8], house: House, name: &[u8]) -> Sought
+    requires { ⌜ IsHouse (now s) house ⌝ }
+    ensures { λ r. ⌜ (r ≡ inSchema (toldReading reading) (now (name .entry)) (treeAt (now (s .entry)) (house .start) (house .stop)) (house .first)) × Small r ⌝ }
 {
-    let r = look(reading, s, at, end, 0x20, name, first);
-    let Sought::Past(n) = r else {
+    let r = type_in(reading, s, house, name);
+    let Sought::Past(_) = r else {
         return r;
     };
-    look(reading, s, at, end, 0x30, name, n)
+    entity_in(reading, s, house, name)
 }
 
 // The number of the first equal name of a kind.
-fn in_kind(
-    reading: Reading,
-    s: &[u8],
-    at: usize,
-    end: usize,
-    kind: ScopeType,
-    name: &[u8],
-    first: usize,
-) -> Sought
-    requires { ⌜ (at ≤ end) × (end ≤ length (now s)) × (first + (end - at) ≤ 65535) ⌝ }
-    ensures { λ r. ⌜ (r ≡ inKind (toldReading reading) (toldKind kind) (now (name .entry)) (treeAt (now (s .entry)) at end) first) × Small r ⌝ }
+fn in_kind(reading: Reading, s: &[u8], house: House, kind: ScopeType, name: &[u8]) -> Sought
+    requires { ⌜ IsHouse (now s) house ⌝ }
+    ensures { λ r. ⌜ (r ≡ inKind (toldReading reading) (toldKind kind) (now (name .entry)) (treeAt (now (s .entry)) (house .start) (house .stop)) (house .first)) × Small r ⌝ }
 {
     let k = kind.place();
     if k == 9 {
-        return look(reading, s, at, end, 0x20, name, first);
+        return type_in(reading, s, house, name);
     }
     if k == 0 {
-        let types = count(s, at, end, 0x20);
-        return look(reading, s, at, end, 0x30, name, first + types);
+        return entity_in(reading, s, house, name);
     }
     Sought::Past(0)
 }
 
 // ---- Walks over the schemas of a sheet.
 
-// The last schema of the name.
-fn last_schema(reading: Reading, sheet: &[u8], scope: &[u8]) -> Home
+// The last schema of the name, and whether it is the only one.
+pub fn home_of(reading: Reading, sheet: &[u8], scope: &[u8]) -> Home
     requires { ⌜ length (now sheet) ≤ 65535 ⌝ }
-    ensures { λ r. ⌜ Houses (now (sheet .entry)) r (last (λ e. sameScope (toldReading reading) (e .scope) (schemaScope (now (scope .entry)))) (entriesFrom 0 (schemasIn (now (sheet .entry))))) ⌝ }
+    ensures { λ r. ⌜ HomeOf (toldReading reading) (now (sheet .entry)) (now (scope .entry)) r ⌝ }
 {
     let end = sheet.len();
     let mut best = Home::Nowhere;
+    let mut alone = true;
     let mut first: usize = 0;
     let mut from: usize = 0;
     loop {
@@ -149,13 +196,15 @@ fn last_schema(reading: Reading, sheet: &[u8], scope: &[u8]) -> Home
             return best;
         };
         if tag == 1 {
-            let more = size(sheet, start, stop);
+            let house = house_at(sheet, start, stop, first);
+            let past = house.past;
             if has_name(reading, sheet, start, stop, scope) {
-                best = Home::At { first, start, stop };
-                first += more;
+                best = Home::At { house, alone };
+                alone = false;
+                first = past;
                 from = stop;
             } else {
-                first += more;
+                first = past;
                 from = stop;
             }
         } else {
@@ -183,22 +232,48 @@ pub fn first_of(
             return Sought::Past(0);
         };
         if tag == 1 {
-            let more = size(sheet, start, stop);
+            let house = house_at(sheet, start, stop, first);
+            let past = house.past;
             if has_name(reading, sheet, start, stop, scope) {
-                let r = in_kind(reading, sheet, start, stop, kind, name, first);
+                let r = in_kind(reading, sheet, house, kind, name);
                 let Sought::Past(_) = r else {
                     return r;
                 };
-                first += more;
+                first = past;
                 from = stop;
             } else {
-                first += more;
+                first = past;
                 from = stop;
             }
         } else {
             from = stop;
         }
     }
+}
+
+// The same where the home of the scope is known: if no other schema has the name, that one alone is searched.
+pub fn first_in(
+    reading: Reading,
+    sheet: &[u8],
+    scope: &[u8],
+    home: Home,
+    kind: ScopeType,
+    name: &[u8],
+) -> Sought
+    requires { ⌜ (length (now sheet) ≤ 65535) × HomeOf (toldReading reading) (now sheet) (now scope) home ⌝ }
+    ensures { λ r. ⌜ (r ≡ soughtOf (declarationFor (toldReading reading) (schemasIn (now (sheet .entry))) (pathTo (now (scope .entry)) (toldKind kind) (now (name .entry))))) × Small r ⌝ }
+{
+    let Home::At { house, alone } = home else {
+        return Sought::Past(0);
+    };
+    if alone {
+        let r = in_kind(reading, sheet, house, kind, name);
+        let Sought::At(_) = r else {
+            return Sought::Past(0);
+        };
+        return r;
+    }
+    first_of(reading, sheet, scope, kind, name)
 }
 
 // ---- What a name means.
@@ -218,15 +293,10 @@ fn resolved_for(reading: Reading, sheet: &[u8], query: &[u8], scope: Scope, name
     if kind.place() != 7 {
         return Sought::Past(0);
     }
-    let Home::At {
-        first,
-        start: a,
-        stop: b,
-    } = last_schema(reading, sheet, &query[start..stop])
-    else {
+    let Home::At { house, alone: _ } = home_of(reading, sheet, &query[start..stop]) else {
         return Sought::Past(0);
     };
-    let r = in_schema(reading, sheet, a, b, name, first);
+    let r = in_schema(reading, sheet, house, name);
     let Sought::At(_) = r else {
         return Sought::Past(0);
     };
@@ -261,17 +331,32 @@ pub fn meant(reading: Reading, sheet: &[u8], scope: &[u8], name: &[u8]) -> Sough
     requires { ⌜ length (now sheet) ≤ 65535 ⌝ }
     ensures { λ r. ⌜ (r ≡ soughtOf (meantIn (toldReading reading) (schemasIn (now (sheet .entry))) (now (scope .entry)) (now (name .entry)))) × Small r ⌝ }
 {
-    let Home::At { first, start, stop } = last_schema(reading, sheet, scope) else {
+    let home = home_of(reading, sheet, scope);
+    meant_in(reading, sheet, scope, home, name)
+}
+
+// The same where the home of the scope is known: if no other schema has the name, what is found there is the first.
+pub fn meant_in(reading: Reading, sheet: &[u8], scope: &[u8], home: Home, name: &[u8]) -> Sought
+    requires { ⌜ (length (now sheet) ≤ 65535) × HomeOf (toldReading reading) (now sheet) (now scope) home ⌝ }
+    ensures { λ r. ⌜ (r ≡ soughtOf (meantIn (toldReading reading) (schemasIn (now (sheet .entry))) (now (scope .entry)) (now (name .entry)))) × Small r ⌝ }
+{
+    let Home::At { house, alone } = home else {
         return Sought::Past(0);
     };
-    let types = look(reading, sheet, start, stop, 0x20, name, first);
-    let Sought::Past(n) = types else {
+    let found = type_in(reading, sheet, house, name);
+    let Sought::Past(_) = found else {
+        if alone {
+            return found;
+        }
         return first_of(reading, sheet, scope, ScopeType::Type, name);
     };
-    let entities = look(reading, sheet, start, stop, 0x30, name, n);
-    let Sought::At(_) = entities else {
+    let found = entity_in(reading, sheet, house, name);
+    let Sought::At(_) = found else {
         return Sought::Past(0);
     };
+    if alone {
+        return found;
+    }
     first_of(reading, sheet, scope, ScopeType::Entity, name)
 }
 

@@ -23,10 +23,10 @@ use Rattle.gathering.proofs.+read_node+read_terms.{statement}
 use Rattle.gathering.proofs.+read_node+read_terms.Tie.{close}
 
 abbrev μ-read-node : Measures 3 read-node-kinds.ps ℕ
-μ-read-node κs a = a .1 .1 .1 .1 .1 .1 .1 .1 .0
+μ-read-node κs a = a .1 .1 .1 .1 .1 .1 .1 .1 .1 .0
 
 abbrev μ-read-terms : Measures 3 read-terms-kinds.ps ℕ
-μ-read-terms κs a = a .1 .1 .1 .1 .1 .1 .1 .0
+μ-read-terms κs a = a .1 .1 .1 .1 .1 .1 .1 .1 .0
 
 abbrev read-node-at : ℕ → In 3 read-node-kinds.ps
 read-node-at t = and 3 read-node-kinds.ps (is 3 read-node-kinds.ps μ-read-node t) read-node.Pre
@@ -44,10 +44,10 @@ read-terms-below t =
     and 3 read-terms-kinds.ps (falls 3 read-terms-kinds.ps _<_ μ-read-terms t) read-terms.Pre
 
 abbrev read-terms-Inv-loop : read-terms-lts.InvT-loop
-read-terms-Inv-loop reading sheet scope at end stream₀ used depth n₀ from₀ stream n from = Reading-on (toldReading reading) (schemasIn sheet) scope sheet at end used depth stream₀ from n stream
+read-terms-Inv-loop reading sheet scope home at end stream₀ used depth n₀ from₀ stream n from = Reading-on (toldReading reading) (schemasIn sheet) scope sheet at end used depth stream₀ from n stream
 
 abbrev read-terms-μ-loop : read-terms-lts.MeasureT-loop
-read-terms-μ-loop reading sheet scope at end stream₀ used depth n₀ from₀ stream n from = end - from
+read-terms-μ-loop reading sheet scope home at end stream₀ used depth n₀ from₀ stream n from = end - from
 
 pub +read-node+read-terms-spec : {M : Type 1} → statement M
 +read-node+read-terms-spec =
@@ -77,7 +77,7 @@ pub +read-node+read-terms-spec : {M : Type 1} → statement M
     (λ c. search (noding, needs))
     (λ c. search (noding, needs))
     (λ c. search (noding, needs))
-    (λ c. simp length-set (c .before .before .before .before .before .read-terms .kept .1 .1 .1 .1 .1 .0 ∙ c .before .before .before .before .before .before .before .before .before .put-node2 .kept .0))
+    (λ c. simp length-set (c .before .before .before .before .before .read-terms .kept .1 .1 .1 .1 .1 .1 .0 ∙ c .before .before .before .before .before .before .before .before .before .put-node2 .kept .0))
     (λ c. search (noding, needs)))
     λ t. read-terms-lts.spec (next-field-reads.Asked, next-field-reads.Learnt, read-node-below t, read-node.Post) (read-terms-at t) read-terms.Post read-terms-Inv-loop read-terms-μ-loop
     (λ c. search (terming, meeting, needs))
@@ -87,7 +87,7 @@ pub +read-node+read-terms-spec : {M : Type 1} → statement M
     (λ c. search (terming, meeting, needs))
     (λ c. search (terming, meeting, needs))
     (λ c. search (terming, meeting, needs))
-    (λ c κs. search (terming, meeting, needs))
+    (λ c κs. (search (terming, meeting, needs), (search (terming, meeting, needs), (search (terming, meeting, needs), search (terming, meeting, needs)))))
     (λ c. search (terming, meeting, needs))
     (λ c. search (terming, meeting, needs))
     (λ c. search (terming, meeting, needs))

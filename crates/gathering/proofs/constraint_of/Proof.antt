@@ -36,7 +36,7 @@ same-length : tie.Need-same-length
 same-length c = search (constraining, spanned, needs)
 
 returns-2 : tie.Need-returns-2
-returns-2 c = search (constraining, spanned, needs)
+returns-2 c = search (constraining, spanned, c .before .before .before .before .before .before .before .before .before .before .before .before .before .before .before .before .pre, needs)
 
 returns-3 : tie.Need-returns-3
 returns-3 c = search (constraining, spanned, needs)

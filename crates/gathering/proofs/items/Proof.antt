@@ -10,16 +10,16 @@ use Rattle.gathering.proofs.items.Statement.{statement}
 use Rattle.gathering.proofs.items.Tie as tie
 
 abbrev Inv-loop : tie.InvT-loop
-Inv-loop reading sheet scope pass at end stream₀ used tag n₀ from₀ stream n from = Fields (λ i. itemKept (toldReading reading) (schemasIn sheet) pass (schemaNamed scope) (i .0) (i .1)) (λ i. itemSize pass (i .1)) (λ i. itemLevel pass (i .1)) (tagFor pass) tag sheet at end used stream₀ from n stream
+Inv-loop reading sheet scope home pass at end stream₀ used tag n₀ from₀ stream n from = Fields (λ i. itemKept (toldReading reading) (schemasIn sheet) pass (schemaNamed scope) (i .0) (i .1)) (λ i. itemSize pass (i .1)) (λ i. itemLevel pass (i .1)) (tagFor pass) tag sheet at end used stream₀ from n stream
 
 abbrev μ-loop : tie.MeasureT-loop
-μ-loop reading sheet scope pass at end stream₀ used tag n₀ from₀ stream n from = end - from
+μ-loop reading sheet scope home pass at end stream₀ used tag n₀ from₀ stream n from = end - from
 
 tag-of-requires : tie.Need-tag-of-requires Inv-loop μ-loop
 tag-of-requires c κs = search (walking, meeting, needs)
 
 loop-holds : tie.Need-loop-holds Inv-loop μ-loop
-loop-holds c = items-start _ _ _ _ _ _ _ _ _ _ (c .tag-of .ensures) (c .before .before .before .before .pre .0) (c .before .before .before .before .pre .1)
+loop-holds c = items-start _ _ _ _ _ _ _ _ _ _ (c .tag-of .ensures) (c .before .before .before .before .pre .0) (c .before .before .before .before .pre .1 .0)
 
 next-field-requires : tie.Need-next-field-requires Inv-loop μ-loop
 next-field-requires c κs = search (walking, meeting, needs)
@@ -40,7 +40,7 @@ sub-place : tie.Need-sub-place Inv-loop μ-loop
 sub-place c = search (walking, meeting, needs)
 
 item-requires : tie.Need-item-requires Inv-loop μ-loop
-item-requires c κs = (search (walking, needs), search (items-room _ _ _ _ _ _ _ _ _ _ _ _ _ (c .before .before .before .before .before .loop .inv), needs))
+item-requires c κs = (search (walking, needs), (search (items-room _ _ _ _ _ _ _ _ _ _ _ _ _ (c .before .before .before .before .before .loop .inv), needs), search needs))
 
 enum-known-answer : tie.Need-enum-known-answer Inv-loop μ-loop
 enum-known-answer c = search (walking, meeting, needs)

@@ -9,17 +9,17 @@ use Rattle.gathering.proofs.own_number.Tie as tie
 name-of-requires : tie.Need-name-of-requires
 name-of-requires c κs = search needs
 
-sub-first-of : tie.Need-sub-first-of
-sub-first-of c = search (spanned, owning, needs)
+sub-first-in : tie.Need-sub-first-in
+sub-first-in c = search (spanned, owning, needs)
 
-part-first-of-start : tie.Need-part-first-of-start
-part-first-of-start c = search (spanned, owning, needs)
+part-first-in-start : tie.Need-part-first-in-start
+part-first-in-start c = search (spanned, owning, needs)
 
-part-first-of-end : tie.Need-part-first-of-end
-part-first-of-end c = search (spanned, owning, needs)
+part-first-in-end : tie.Need-part-first-in-end
+part-first-in-end c = search (spanned, owning, needs)
 
-first-of-requires : tie.Need-first-of-requires
-first-of-requires c κs = search needs
+first-in-requires : tie.Need-first-in-requires
+first-in-requires c κs = search needs
 
 enum-known-number : tie.Need-enum-known-number
 enum-known-number c = search needs
@@ -41,10 +41,10 @@ own-number-spec =
     tie.close
     (tie.spec
     name-of-requires
-    sub-first-of
-    part-first-of-start
-    part-first-of-end
-    first-of-requires
+    sub-first-in
+    part-first-in-start
+    part-first-in-end
+    first-in-requires
     enum-known-number
     enum-told
     returns

@@ -50,7 +50,7 @@ same-length-2 : tie.Need-same-length-2
 same-length-2 c = search (ruling, needs)
 
 returns-3 : tie.Need-returns-3
-returns-3 c = search (ruling, needs)
+returns-3 c = search (ruling, c .before .before .before .before .before .before .before .before .before .before .before .before .before .before .before .before .before .before .before .pre, needs)
 
 same-length-3 : tie.Need-same-length-3
 same-length-3 c = search (ruling, needs)

@@ -11,10 +11,10 @@ use Rattle.lookup.proofs.look.Statement.{statement}
 use Rattle.lookup.proofs.look.Tie as tie
 
 abbrev Inv-loop : tie.InvT-loop
-Inv-loop reading s at end tag name first n₀ from₀ n from = Looking (toldReading reading) s name tag end n from (lookIn (toldReading reading) name (each tag itsName (treeAt s at end)) first)
+Inv-loop reading s at end tag name first past n₀ from₀ n from = Looking (toldReading reading) s name tag end past n from (lookIn (toldReading reading) name (each tag itsName (treeAt s at end)) first)
 
 abbrev μ-loop : tie.MeasureT-loop
-μ-loop reading s at end tag name first n₀ from₀ n from = end - from
+μ-loop reading s at end tag name first past n₀ from₀ n from = end - from
 
 loop-holds : tie.Need-loop-holds Inv-loop μ-loop
 loop-holds c = search (looking, fields, needs)
@@ -52,6 +52,9 @@ loop-less-2 c = search (looking, fields, needs)
 loop-again-2 : tie.Need-loop-again-2 Inv-loop μ-loop
 loop-again-2 c = search (looking, fields, needs)
 
+returns-3 : tie.Need-returns-3 Inv-loop μ-loop
+returns-3 c = search (looking, fields, needs)
+
 pub look-spec : {M : Type 1} → statement M
 look-spec =
     tie.close
@@ -69,4 +72,5 @@ look-spec =
     loop-less
     loop-again
     loop-less-2
-    loop-again-2)
+    loop-again-2
+    returns-3)

@@ -32,8 +32,8 @@ enum-told c = search (getting, fields, needs)
 returns : tie.Need-returns Inv-loop μ-loop
 returns c = search (getting, fields, needs)
 
-size-requires : tie.Need-size-requires Inv-loop μ-loop
-size-requires c κs = search (getting, fields, needs)
+house-at-requires : tie.Need-house-at-requires Inv-loop μ-loop
+house-at-requires c κs = search (getting, fields, needs)
 
 has-name-requires : tie.Need-has-name-requires Inv-loop μ-loop
 has-name-requires c κs = search (getting, fields, needs)
@@ -50,17 +50,11 @@ enum-told-3 c = search (getting, fields, needs)
 returns-2 : tie.Need-returns-2 Inv-loop μ-loop
 returns-2 c = search (getting, fields, needs)
 
-add-first : tie.Need-add-first Inv-loop μ-loop
-add-first c = search (getting, fields, needs)
-
 loop-less : tie.Need-loop-less Inv-loop μ-loop
 loop-less c = search (getting, fields, needs)
 
 loop-again : tie.Need-loop-again Inv-loop μ-loop
 loop-again c = search (getting, fields, needs)
-
-add-first-2 : tie.Need-add-first-2 Inv-loop μ-loop
-add-first-2 c = search (getting, fields, needs)
 
 loop-less-2 : tie.Need-loop-less-2 Inv-loop μ-loop
 loop-less-2 c = search (getting, fields, needs)
@@ -85,16 +79,14 @@ first-of-spec =
     enum-known-tag
     enum-told
     returns
-    size-requires
+    house-at-requires
     has-name-requires
     in-kind-requires
     enum-told-2
     enum-told-3
     returns-2
-    add-first
     loop-less
     loop-again
-    add-first-2
     loop-less-2
     loop-again-2
     loop-less-3

@@ -8,28 +8,28 @@ returns : tie.Need-returns
 returns c = search (reaching-names, needs)
 
 place-requires : tie.Need-place-requires
-place-requires c κs = search (reaching-names, needs)
+place-requires c κs = search needs
 
 returns-2 : tie.Need-returns-2
 returns-2 c = search (reaching-names, needs)
 
-sub-last-schema : tie.Need-sub-last-schema
-sub-last-schema c = search (reaching-names, needs)
+sub-home-of : tie.Need-sub-home-of
+sub-home-of c = search needs
 
-part-last-schema-start : tie.Need-part-last-schema-start
-part-last-schema-start c = search (reaching-names, needs)
+part-home-of-start : tie.Need-part-home-of-start
+part-home-of-start c = search needs
 
-part-last-schema-end : tie.Need-part-last-schema-end
-part-last-schema-end c = search (reaching-names, needs)
+part-home-of-end : tie.Need-part-home-of-end
+part-home-of-end c = search needs
 
-last-schema-requires : tie.Need-last-schema-requires
-last-schema-requires c κs = search (reaching-names, needs)
+home-of-requires : tie.Need-home-of-requires
+home-of-requires c κs = search needs
 
-enum-known-first : tie.Need-enum-known-first
-enum-known-first c = search (reaching-names, needs)
+enum-known-house : tie.Need-enum-known-house
+enum-known-house c = search needs
 
 enum-told : tie.Need-enum-told
-enum-told c = search (reaching-names, needs)
+enum-told c = search needs
 
 returns-3 : tie.Need-returns-3
 returns-3 c = search (reaching-names, needs)
@@ -38,10 +38,10 @@ in-schema-requires : tie.Need-in-schema-requires
 in-schema-requires c κs = search (reaching-names, needs)
 
 enum-told-2 : tie.Need-enum-told-2
-enum-told-2 c = search (reaching-names, needs)
+enum-told-2 c = search needs
 
 enum-told-3 : tie.Need-enum-told-3
-enum-told-3 c = search (reaching-names, needs)
+enum-told-3 c = search needs
 
 returns-4 : tie.Need-returns-4
 returns-4 c = search (reaching-names, needs)
@@ -56,11 +56,11 @@ resolved-for-spec =
     returns
     place-requires
     returns-2
-    sub-last-schema
-    part-last-schema-start
-    part-last-schema-end
-    last-schema-requires
-    enum-known-first
+    sub-home-of
+    part-home-of-start
+    part-home-of-end
+    home-of-requires
+    enum-known-house
     enum-told
     returns-3
     in-schema-requires

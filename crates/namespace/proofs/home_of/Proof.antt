@@ -1,21 +1,17 @@
--- `last_schema`: the last of the schemas that are left, or else the one found so far, is the last of all.
+-- `home_of`: the last of the schemas that are left, or else the one found so far, is the last of all.
 use borrow.Author.Needs.{needs}
 use Prim.Native.Nat.{_-_}
 use Rattle.sheet.specs.Told.{toldReading}
-use Rattle.scope.specs.MeaningScope.{sameScope}
-use Rattle.namespace.specs.MeaningNamespace.{entriesFrom, last}
-use Rattle.namespace.specs.MeaningOrder.{schemasIn}
-use Rattle.namespace.specs.MirrorNamespace.{schemaScope}
 use Rattle.lookup.proofs.Fields.{fields}
 use Rattle.namespace.proofs.Walks.{Seeking, seeking}
-use Rattle.namespace.proofs.last_schema.Statement.{statement}
-use Rattle.namespace.proofs.last_schema.Tie as tie
+use Rattle.namespace.proofs.home_of.Statement.{statement}
+use Rattle.namespace.proofs.home_of.Tie as tie
 
 abbrev Inv-loop : tie.InvT-loop
-Inv-loop reading sheet scope end best₀ first₀ from₀ best first from = Seeking (toldReading reading) sheet scope end first from best (last (λ e. sameScope (toldReading reading) (e .scope) (schemaScope scope)) (entriesFrom 0 (schemasIn sheet)))
+Inv-loop reading sheet scope end best₀ alone₀ first₀ from₀ best alone first from = Seeking (toldReading reading) sheet scope end first from best alone
 
 abbrev μ-loop : tie.MeasureT-loop
-μ-loop reading sheet scope end best₀ first₀ from₀ best first from = end - from
+μ-loop reading sheet scope end best₀ alone₀ first₀ from₀ best alone first from = end - from
 
 loop-holds : tie.Need-loop-holds Inv-loop μ-loop
 loop-holds c = search (seeking, fields, needs)
@@ -32,23 +28,17 @@ enum-told c = search (seeking, fields, needs)
 returns : tie.Need-returns Inv-loop μ-loop
 returns c = search (seeking, fields, needs)
 
-size-requires : tie.Need-size-requires Inv-loop μ-loop
-size-requires c κs = search (seeking, fields, needs)
+house-at-requires : tie.Need-house-at-requires Inv-loop μ-loop
+house-at-requires c κs = search (seeking, fields, needs)
 
 has-name-requires : tie.Need-has-name-requires Inv-loop μ-loop
 has-name-requires c κs = search (seeking, fields, needs)
-
-add-first : tie.Need-add-first Inv-loop μ-loop
-add-first c = search (seeking, fields, needs)
 
 loop-less : tie.Need-loop-less Inv-loop μ-loop
 loop-less c = search (seeking, fields, needs)
 
 loop-again : tie.Need-loop-again Inv-loop μ-loop
 loop-again c = search (seeking, fields, needs)
-
-add-first-2 : tie.Need-add-first-2 Inv-loop μ-loop
-add-first-2 c = search (seeking, fields, needs)
 
 loop-less-2 : tie.Need-loop-less-2 Inv-loop μ-loop
 loop-less-2 c = search (seeking, fields, needs)
@@ -62,8 +52,8 @@ loop-less-3 c = search (seeking, fields, needs)
 loop-again-3 : tie.Need-loop-again-3 Inv-loop μ-loop
 loop-again-3 c = search (seeking, fields, needs)
 
-pub last-schema-spec : {M : Type 1} → statement M
-last-schema-spec =
+pub home-of-spec : {M : Type 1} → statement M
+home-of-spec =
     tie.close
     (tie.spec
     Inv-loop
@@ -73,12 +63,10 @@ last-schema-spec =
     enum-known-tag
     enum-told
     returns
-    size-requires
+    house-at-requires
     has-name-requires
-    add-first
     loop-less
     loop-again
-    add-first-2
     loop-less-2
     loop-again-2
     loop-less-3
