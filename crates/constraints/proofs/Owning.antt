@@ -141,7 +141,7 @@ module _ (rd : Reading) (xs : List Schema) where
   at-mapped f (x ∷ g) zero = refl
   at-mapped f (x ∷ g) (suc k) = at-mapped f g k
 
-  owners-both : (cs : List (Combined ℕ)) (ps : List (Pair ℕ)) → map (λ (c : Combined ℕ). c .owner) (cs ++ map paired ps) ≡ map (λ (c : Combined ℕ). c .owner) cs ++ map (λ (x : Pair ℕ). x .super) ps
+  pub owners-both : (cs : List (Combined ℕ)) (ps : List (Pair ℕ)) → map (λ (c : Combined ℕ). c .owner) (cs ++ map paired ps) ≡ map (λ (c : Combined ℕ). c .owner) cs ++ map (λ (x : Pair ℕ). x .super) ps
   owners-both [] [] = refl
   owners-both [] (x ∷ ps) = ap (λ (l : List ℕ). x .super ∷ l) (owners-both [] ps)
   owners-both (c ∷ cs) ps = ap (λ (l : List ℕ). c .owner ∷ l) (owners-both cs ps)

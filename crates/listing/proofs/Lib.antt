@@ -2,4 +2,6 @@
 pub mod Shortness
 pub mod Spelling
 pub mod Listing
+pub mod Noting
+pub mod Typing
 pub mod Proved

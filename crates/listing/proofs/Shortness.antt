@@ -23,7 +23,7 @@ abbrev pub Few : List ℕ → Type 0
 Few v = length v ≤ most-name-bytes
 
 -- all of a list are so
-abbrev All : {A : Type 0} → (A → Type 0) → List A → Type 0
+abbrev pub All : {A : Type 0} → (A → Type 0) → List A → Type 0
 All P [] = Unit {0}
 All P (x ∷ xs) = P x × All P xs
 
@@ -78,7 +78,7 @@ module _ (rd : Reading) where
 abbrev DeclarationFew : Declaration → Type 0
 DeclarationFew d = Few (schemaName (d .path)) × Few (itemName (d .path))
 
-all-append : {A : Type 0} (P : A → Type 0) (xs ys : List A) → All P xs → All P ys → All P (xs ++ ys)
+pub all-append : {A : Type 0} (P : A → Type 0) (xs ys : List A) → All P xs → All P ys → All P (xs ++ ys)
 all-append P [] ys a b = b
 all-append P (x ∷ xs) ys a b = (a .0, all-append P xs ys (a .1) b)
 
@@ -86,7 +86,7 @@ all-map : {A B : Type 0} (P : B → Type 0) (f : A → B) (xs : List A) → All 
 all-map P f [] a = tt
 all-map P f (x ∷ xs) a = (a .0, all-map P f xs (a .1))
 
-all-in : {A : Type 0} (P : A → Type 0) (xs : List A) → All P xs → (x : A) → x ∈ xs → P x
+pub all-in : {A : Type 0} (P : A → Type 0) (xs : List A) → All P xs → (x : A) → x ∈ xs → P x
 all-in P (y ∷ ys) a x (here e) = rw e (a .0)
 all-in P (y ∷ ys) a x (there m) = all-in P ys (a .1) x m
 

@@ -82,7 +82,7 @@ pub ruleset spelling = (schema-empty, item-empty, schema-order, schema-in, item-
 
 -- ---- how long they are, and the text that they make
 
-nth-there : {A : Type 0} (xs : List A) (k : ℕ) (x : A) → getElem? xs k ≡ some x → x ∈ xs
+pub nth-there : {A : Type 0} (xs : List A) (k : ℕ) (x : A) → getElem? xs k ≡ some x → x ∈ xs
 nth-there [] k x e = clash (cc)
 nth-there (y ∷ xs) zero x e = let u : x ≡ y = cc in here u
 nth-there (y ∷ xs) (suc k) x e = there (nth-there xs k x e)
@@ -120,6 +120,9 @@ module _ (s : List ℕ) (index : ℕ) (v w : Span) (f : Spells s (namesOf (schem
   pub line-room : Short s → (n : ℕ) → 100 ≤ n → length a + length b + 26 ≤ n
   line-room h n m = omega (arith, both-short h)
 
+  pub type-room : Short s → (n : ℕ) → 100 ≤ n → length a + length b + 21 ≤ n
+  type-room h n m = omega (arith, both-short h)
+
   module _ {at r : ℕ} {x y : List ℕ} where
     pub puts-number : (first : Bool) → Puts (nextText first (pathText a b)) at r x y → Puts (nextText first (numberText (schemasIn s) index)) at r x y
     unfolding numberText
@@ -129,4 +132,4 @@ module _ (s : List ℕ) (index : ℕ) (v w : Span) (f : Spells s (namesOf (schem
     unfolding lineOfSupertype
     puts-supertype count p = rw (schema-so, item-so) at p
 
-pub ruleset spelt = (path-room, line-room, puts-number, puts-supertype)
+pub ruleset spelt = (path-room, line-room, type-room, puts-number, puts-supertype)

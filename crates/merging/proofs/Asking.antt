@@ -16,12 +16,14 @@ use Rattle.expression.proofs.Occurrence.{scan-flat}
 use Rattle.merging.specs.MeaningMerging.{Combined, find}
 use Rattle.merging.specs.MeaningItems.{factors, exprsOf, allFactors}
 use Rattle.merging.specs.Claims.{Equivalence, among, firsts}
-use Rattle.merging.specs.MirrorStream.{streamOf, Records, isFound, begins, aloneOf, ownerOf}
+use Rattle.merging.specs.MirrorStream.{streamOf, Records, isFound, begins, aloneOf, ownerOf, RecordsFrom, ownersFrom, EntryAt, EntryIs}
 use Rattle.merging.specs.declared.Combination.{Combination}
+use Rattle.merging.specs.declared.Entry.{Entry}
+use Rattle.merging.specs.declared.Entry.the-variants as entry
 use Rattle.merging.specs.declared.Owner.the-variants.{At, Past}
 use Rattle.merging.proofs.Factors.{both, not-both, in-append, in-factors}
 use Rattle.merging.proofs.Ordering.{owners, firsts-again}
-use Rattle.merging.proofs.Streams.{Walk, walk-start, Next, walk-same, walk-ahead, walk-ended, walk-next}
+use Rattle.merging.proofs.Streams.{stream-injective, Walk, walk-start, walk-from, Next, walk-same, walk-place, walk-before, walk-left, walk-ahead, walk-ended, walk-next}
 
 -- ---- any question F
 pub record Goes {A : Type 0} (F : List (Combined ℕ) → A) (l : List ℕ) (at : ℕ) : Type 0 where
@@ -272,85 +274,143 @@ pub owners-append : (cs ds : List (Combined ℕ)) → owners (cs ++ ds) ≡ owne
 owners-append [] ds = refl
 owners-append (c ∷ cs) ds = rw (owners-append cs ds)
 
--- those before a place are seen, and so many of the others come before the one that is asked for
-pub record Counting (l : List ℕ) (number left at : ℕ) : Type 0 where
-  pub walk : Walk l at
-  pub rest : getElem? (firsts eqb (owners (walk .before)) (owners (walk .left))) left ≡ getElem? (firsts eqb [] (owners (walk .before ++ walk .left))) number
-
-pub count-start : (l : List ℕ) (number : ℕ) → Records l → Counting l number number 0
-unfolding walk-start
-count-start l number w = record { walk = walk-start l w; rest = refl }
-
-firsts-new : (s : List ℕ) (p : ℕ) (ps : List ℕ) → among eqb p s ≡ false → firsts eqb s (p ∷ ps) ≡ p ∷ firsts eqb (s ++ (p ∷ [])) ps
+pub firsts-new : (s : List ℕ) (p : ℕ) (ps : List ℕ) → among eqb p s ≡ false → firsts eqb s (p ∷ ps) ≡ p ∷ firsts eqb (s ++ (p ∷ [])) ps
 unfolding firsts
 firsts-new s p ps h = rw h
 
-at-front : (n p : ℕ) (ps : List ℕ) → n ≡ 0 → getElem? (p ∷ ps) n ≡ some p
-at-front n p ps z = rw z
+-- those before a place are seen, and the owners that come are the same as from the first place on
+pub record Entering (l : List ℕ) (from at : ℕ) : Type 0 where
+  pub walk : Walk l at
+  pub onward : from ≤ at
+  pub rest : (cs ds : List (Combined ℕ)) → l ≡ streamOf (cs ++ ds) → from ≡ length (streamOf cs) → ownersFrom cs ds ≡ ownersFrom (walk .before) (walk .left)
 
-firsts-nil : (s : List ℕ) (n : ℕ) → getElem? (firsts eqb s []) n ≡ none
-unfolding firsts
-firsts-nil s n = refl
+pub enter-start : (l : List ℕ) (from : ℕ) → RecordsFrom l from → Entering l from from
+enter-start l from p =
+    let w = walk-from p in
+    record {
+      walk = w;
+      onward = omega arith;
+      rest = λ cs ds e k. rw (walk-before w cs ds e k, walk-left w cs ds e k) refl;
+    }
 
-module _ (l : List ℕ) (number left at : ℕ) (g : Counting l number left at) where
-  counted : (cs : List (Combined ℕ)) → l ≡ streamOf cs → getElem? (firsts eqb (owners (g .walk .before)) (owners (g .walk .left))) left ≡ getElem? (firsts eqb [] (owners cs)) number
-  counted cs e = g .rest ∙ ap (λ (ds : List (Combined ℕ)). getElem? (firsts eqb [] (owners ds)) number) (walk-same (g .walk) cs e)
+module _ (l : List ℕ) (from at : ℕ) (g : Entering l from at) where
+  pub enter-none : length l ≤ at → (cs ds : List (Combined ℕ)) → l ≡ streamOf (cs ++ ds) → from ≡ length (streamOf cs) → EntryIs cs ds entry.Past
+  unfolding EntryIs firsts
+  enter-none h cs ds e k = g .rest cs ds e k ∙ ap (λ (es : List (Combined ℕ)). ownersFrom (g .walk .before) es) (walk-ended (g .walk) h)
 
-  pub count-none : length l ≤ at → (cs : List (Combined ℕ)) → l ≡ streamOf cs → Past ≡ ownerOf (getElem? (firsts eqb [] (owners cs)) number)
-  count-none h cs e =
-      ap ownerOf (sym (firsts-nil (owners (g .walk .before)) left) ∙ ap (λ (ds : List (Combined ℕ)). getElem? (firsts eqb (owners (g .walk .before)) (owners ds)) left) (sym (walk-ended (g .walk) h)) ∙ counted cs e)
+  pub enter-within : at ≡ length (take at l)
+  enter-within = sym (length-take-le at l (g .walk .within))
 
-  pub count-within : at ≡ length (take at l)
-  count-within = sym (length-take-le at l (g .walk .within))
-
-  pub count-front : Records (take at l)
-  count-front = record { list = g .walk .before; is = g .walk .done }
+  pub enter-front : Records (take at l)
+  enter-front = record { list = g .walk .before; is = g .walk .done }
 
   module _ (h : at < length l) where
     next-one : Next l at (g .walk .left)
     next-one = walk-ahead (g .walk) h
 
-    pub count-room : at + 3 < length l
-    count-room = let n = next-one in omega (arith, n .fits, n .long)
+    pub enter-room : at + 3 < length l
+    enter-room = let n = next-one in omega (arith, n .fits, n .long)
 
-    pub count-less : (next : ℕ) → next ≡ at + 1 + getD l (at + 3) 0 → length l - next < length l - at
-    count-less next e = let n = next-one in omega (arith, n .fits, n .long)
+    module _ (next : ℕ) (e : next ≡ at + 1 + getD l (at + 3) 0) where
+      pub enter-less : length l - next < length l - at
+      enter-less = let n = next-one in omega (arith, n .fits, n .long)
 
-    module _ (b : Bool) (s : (cs : List (Combined ℕ)) → take at l ≡ streamOf cs → b ≡ isFound (find eqb (getD l at 0) cs)) where
-      seen : (n : Next l at (g .walk .left)) → among eqb (n .first .owner) (owners (g .walk .before)) ≡ b
-      seen n = sym (s (g .walk .before) (g .walk .done) ∙ found-among (getD l at 0) (g .walk .before) ∙ ap (λ (p : ℕ). among eqb p (owners (g .walk .before))) (n .owner))
+      module _ (b : Bool) (s : (cs : List (Combined ℕ)) → take at l ≡ streamOf cs → b ≡ isFound (find eqb (getD l at 0) cs)) where
+        seen : (n : Next l at (g .walk .left)) → among eqb (n .first .owner) (owners (g .walk .before)) ≡ b
+        seen n = sym (s (g .walk .before) (g .walk .done) ∙ found-among (getD l at 0) (g .walk .before) ∙ ap (λ (p : ℕ). among eqb p (owners (g .walk .before))) (n .owner))
 
-      pub count-here : b ≡ false → left ≡ 0 → (cs : List (Combined ℕ)) → l ≡ streamOf cs → At (getD l at 0) ≡ ownerOf (getElem? (firsts eqb [] (owners cs)) number)
-      count-here f z cs e =
-          let n = next-one in
-          let k : getElem? (firsts eqb (owners (g .walk .before)) (n .first .owner ∷ owners (n .later))) left ≡ some (n .first .owner) = ap (λ (ps : List ℕ). getElem? ps left) (firsts-new (owners (g .walk .before)) (n .first .owner) (owners (n .later)) (seen n ∙ f)) ∙ at-front left (n .first .owner) (firsts eqb (owners (g .walk .before) ++ (n .first .owner ∷ [])) (owners (n .later))) z in
-          ap At (n .owner) ∙ ap ownerOf (sym k ∙ ap (λ (ds : List (Combined ℕ)). getElem? (firsts eqb (owners (g .walk .before)) (owners ds)) left) (sym (n .split)) ∙ counted cs e)
+        -- the owners from the record on, by its own
+        from-here : (n : Next l at (g .walk .left)) (cs ds : List (Combined ℕ)) → l ≡ streamOf (cs ++ ds) → from ≡ length (streamOf cs) → ownersFrom cs ds ≡ ownersFrom (g .walk .before) (n .first ∷ n .later)
+        from-here n cs ds i k = g .rest cs ds i k ∙ ap (λ (es : List (Combined ℕ)). ownersFrom (g .walk .before) es) (n .split)
 
-      onward : (n : Next l at (g .walk .left)) (next : ℕ) → next ≡ at + 1 + getD l (at + 3) 0 → (left′ : ℕ)
-          → getElem? (firsts eqb (owners (g .walk .before) ++ (n .first .owner ∷ [])) (owners (n .later))) left′ ≡ getElem? (firsts eqb (owners (g .walk .before)) (n .first .owner ∷ owners (n .later))) left
-          → Counting l number left′ next
-      unfolding walk-next
-      onward n next e left′ i = record {
-        walk = walk-next (g .walk) n next e;
-        rest =
-            ap (λ (ps : List ℕ). getElem? (firsts eqb ps (owners (n .later))) left′) (owners-append (g .walk .before) (n .first ∷ []))
-            ∙ i
-            ∙ ap (λ (ds : List (Combined ℕ)). getElem? (firsts eqb (owners (g .walk .before)) (owners ds)) left) (sym (n .split))
-            ∙ g .rest
-            ∙ ap (λ (ds : List (Combined ℕ)). getElem? (firsts eqb [] (owners (g .walk .before ++ ds))) number) (n .split)
-            ∙ ap (λ (ds : List (Combined ℕ)). getElem? (firsts eqb [] (owners ds)) number) (sym (append-assoc (g .walk .before) (n .first ∷ []) (n .later)));
-      }
+        behind : (n : Next l at (g .walk .left)) → firsts eqb (owners (g .walk .before) ++ (n .first .owner ∷ [])) (owners (n .later)) ≡ ownersFrom (g .walk .before ++ (n .first ∷ [])) (n .later)
+        behind n = ap (λ (ps : List ℕ). firsts eqb ps (owners (n .later))) (sym (owners-append (g .walk .before) (n .first ∷ [])))
 
-      module _ (next : ℕ) (e : next ≡ at + 1 + getD l (at + 3) 0) where
-        pub count-again : b ≡ true → Counting l number left next
-        count-again t =
+        pub enter-again : b ≡ true → Entering l from next
+        unfolding walk-next
+        enter-again t =
             let n = next-one in
-            onward n next e left (ap (λ (ps : List ℕ). getElem? ps left) (sym (firsts-again eqb-equivalence (owners (g .walk .before)) (n .first .owner) (owners (n .later)) (seen n ∙ t))))
+            record {
+              walk = walk-next (g .walk) n next e;
+              onward = omega (arith, g .onward);
+              rest = λ cs ds i k. from-here n cs ds i k ∙ firsts-again eqb-equivalence (owners (g .walk .before)) (n .first .owner) (owners (n .later)) (seen n ∙ t) ∙ behind n;
+            }
 
-        pub count-new : b ≡ false → (left ≡ 0 → ⊥) → Counting l number (left - 1) next
-        count-new f z =
+        pub enter-here : b ≡ false → (cs ds : List (Combined ℕ)) → l ≡ streamOf (cs ++ ds) → from ≡ length (streamOf cs) → EntryIs cs ds (entry.At (getD l at 0) next)
+        unfolding EntryIs walk-next
+        enter-here f cs ds i k =
             let n = next-one in
-            let i : left ≡ suc (left - 1) = omega arith in
-            onward n next e (left - 1) (sym (ap (λ (ps : List ℕ). getElem? ps left) (firsts-new (owners (g .walk .before)) (n .first .owner) (owners (n .later)) (seen n ∙ f)) ∙ ap (λ (j : ℕ). getElem? (n .first .owner ∷ firsts eqb (owners (g .walk .before) ++ (n .first .owner ∷ [])) (owners (n .later))) j) i))
+            record {
+              passed = g .walk .before ++ (n .first ∷ []);
+              coming = n .later;
+              same = sym (walk-same (g .walk) (cs ++ ds) i) ∙ ap (λ (es : List (Combined ℕ)). g .walk .before ++ es) (n .split) ∙ sym (append-assoc (g .walk .before) (n .first ∷ []) (n .later));
+              place = walk-place (walk-next (g .walk) n next e);
+              further = omega (arith, g .onward);
+              within = omega (arith, n .fits, ap length i);
+              owners =
+                  from-here n cs ds i k
+                  ∙ firsts-new (owners (g .walk .before)) (n .first .owner) (owners (n .later)) (seen n ∙ f)
+                  ∙ rw (n .owner) (ap (λ (ps : List ℕ). n .first .owner ∷ ps) (behind n));
+            }
 
-pub ruleset counting = (count-start, count-none, count-within, count-front, count-room, count-less, count-here, count-again, count-new)
+pub ruleset entering = (enter-start, enter-none, enter-within, enter-front, enter-room, enter-less, enter-again, enter-here)
+
+-- ---- the number-th owner: so many of those that come stand before it
+pub record Counting (l : List ℕ) (number left at : ℕ) : Type 0 where
+  pub from : RecordsFrom l at
+  pub rest : getElem? (ownersFrom (from .passed) (from .coming)) left ≡ getElem? (firsts eqb [] (owners (from .passed ++ from .coming))) number
+
+pub count-start : (l : List ℕ) (number : ℕ) → Records l → Counting l number number 0
+unfolding streamOf
+count-start l number w = record { from = record { passed = []; coming = w .list; is = w .is; place = refl }; rest = refl }
+
+at-front : (n p : ℕ) (ps : List ℕ) → n ≡ 0 → getElem? (p ∷ ps) n ≡ some p
+at-front n p ps z = rw z
+
+at-later : (n p : ℕ) (ps : List ℕ) → (n ≡ 0 → ⊥) → getElem? (p ∷ ps) n ≡ getElem? ps (n - 1)
+at-later n p ps z = let i : n ≡ suc (n - 1) = omega arith in ap (getElem? (p ∷ ps)) i
+
+module _ (l : List ℕ) (number left at : ℕ) (g : Counting l number left at) where
+  pub count-from : RecordsFrom l at
+  count-from = g .from
+
+  module _ (r : Entry) (s : (cs ds : List (Combined ℕ)) → l ≡ streamOf (cs ++ ds) → at ≡ length (streamOf cs) → EntryIs cs ds r) where
+    entered : EntryIs (g .from .passed) (g .from .coming) r
+    entered = s (g .from .passed) (g .from .coming) (g .from .is) (g .from .place)
+
+    counted : (ps : List ℕ) → ownersFrom (g .from .passed) (g .from .coming) ≡ ps → (cs : List (Combined ℕ)) → l ≡ streamOf cs → getElem? ps left ≡ getElem? (firsts eqb [] (owners cs)) number
+    counted ps i cs e =
+        ap (λ (qs : List ℕ). getElem? qs left) (sym i)
+        ∙ g .rest
+        ∙ ap (λ (ds : List (Combined ℕ)). getElem? (firsts eqb [] (owners ds)) number) (stream-injective (g .from .passed ++ g .from .coming) cs (sym (g .from .is) ∙ e))
+
+    pub count-none : r ≡ entry.Past → (cs : List (Combined ℕ)) → l ≡ streamOf cs → Past ≡ ownerOf (getElem? (firsts eqb [] (owners cs)) number)
+    unfolding EntryIs
+    count-none i cs e = ap ownerOf (counted [] (rw i at entered) cs e)
+
+    module _ (owner next : ℕ) (i : r ≡ entry.At owner next) where
+      entry-at : EntryAt (g .from .passed) (g .from .coming) owner next
+      unfolding EntryIs
+      entry-at = rw i at entered
+
+      pub count-here : left ≡ 0 → (cs : List (Combined ℕ)) → l ≡ streamOf cs → At owner ≡ ownerOf (getElem? (firsts eqb [] (owners cs)) number)
+      count-here z cs e =
+          let n = entry-at in
+          ap ownerOf (sym (at-front left owner (ownersFrom (n .passed) (n .coming)) z) ∙ counted (owner ∷ ownersFrom (n .passed) (n .coming)) (n .owners) cs e)
+
+      pub count-less : length l - next < length l - at
+      count-less = let n = entry-at in omega (arith, n .further, n .within, g .from .place, ap length (g .from .is))
+
+      pub count-new : (left ≡ 0 → ⊥) → Counting l number (left - 1) next
+      count-new z =
+          let n = entry-at in
+          record {
+            from = record { passed = n .passed; coming = n .coming; is = g .from .is ∙ ap streamOf (n .same); place = n .place };
+            rest =
+                sym (at-later left owner (ownersFrom (n .passed) (n .coming)) z)
+                ∙ ap (λ (qs : List ℕ). getElem? qs left) (sym (n .owners))
+                ∙ g .rest
+                ∙ ap (λ (ds : List (Combined ℕ)). getElem? (firsts eqb [] (owners ds)) number) (n .same);
+          }
+
+pub ruleset counting = (count-start, count-from, count-none, count-here, count-less, count-new)

@@ -4,12 +4,12 @@ use mathlib.Core.List.{List, [], _∷_, _++_, map, append-assoc}
 use Prim.Native.Nat.{ℕ, _+_, _-_, _≤_, _<_}
 use native.Mathlib.Omega.{arith}
 use lib.ListN.{length, take, drop, getD, length-append, length-drop}
-use lib.Seq.{take-at, take-all, take-add, drop-at, drop-drop, getD-drop}
+use lib.Seq.{length-take-le, take-at, take-all, take-add, drop-at, drop-drop, getD-drop}
 use Rattle.expression.specs.MeaningExpression.{Expr, reference, andor, «and», oneof}
 use Rattle.expression.specs.MirrorNodes.{flat}
 use Rattle.expression.proofs.Spans.{flat-long, flat-injective}
 use Rattle.merging.specs.MeaningMerging.{Combined, Pair}
-use Rattle.merging.specs.MirrorStream.{streamOf, paired, pairsOf, Records}
+use Rattle.merging.specs.MirrorStream.{streamOf, paired, pairsOf, Records, RecordsFrom}
 
 -- ---- the numbers determine the records
 pub span-at : (e : Expr ℕ) (r : List ℕ) → getD (flat e ++ r) 2 0 ≡ length (flat e)
@@ -89,6 +89,17 @@ unfoldable pub walk-start : (l : List ℕ) → Records l → Walk l 0
 unfolding streamOf
 walk-start l w = record { before = []; left = w .list; done = refl; stands = w .is; within = omega arith }
 
+unfoldable pub walk-from : {l : List ℕ} {at : ℕ} → RecordsFrom l at → Walk l at
+walk-from {l} {at} w =
+    let e : l ≡ streamOf (w .passed) ++ streamOf (w .coming) = w .is ∙ stream-append (w .passed) (w .coming) in
+    record {
+      before = w .passed;
+      left = w .coming;
+      done = ap (take at) e ∙ take-at (streamOf (w .passed)) (streamOf (w .coming)) at (sym (w .place));
+      stands = ap (drop at) e ∙ drop-at (streamOf (w .passed)) (streamOf (w .coming)) at (sym (w .place));
+      within = omega (arith, w .place, ap length e, length-append (streamOf (w .passed)) (streamOf (w .coming)));
+    }
+
 -- what the code reads of the first record there
 pub record Next (l : List ℕ) (at : ℕ) (left : List (Combined ℕ)) : Type 0 where
   pub first : Combined ℕ
@@ -129,6 +140,18 @@ module _ {l : List ℕ} {at : ℕ} (w : Walk l at) where
 
   pub walk-same : (cs : List (Combined ℕ)) → l ≡ streamOf cs → w .before ++ w .left ≡ cs
   walk-same cs e = stream-injective (w .before ++ w .left) cs (sym walk-all ∙ e)
+
+  -- the place decides what stands before it
+  pub walk-place : at ≡ length (streamOf (w .before))
+  walk-place = sym (length-take-le at l (w .within)) ∙ ap length (w .done)
+
+  pub walk-before : (cs ds : List (Combined ℕ)) → l ≡ streamOf (cs ++ ds) → at ≡ length (streamOf cs) → cs ≡ w .before
+  walk-before cs ds e k =
+      stream-injective cs (w .before) (sym (take-at (streamOf cs) (streamOf ds) at (sym k)) ∙ ap (take at) (sym (e ∙ stream-append cs ds)) ∙ w .done)
+
+  pub walk-left : (cs ds : List (Combined ℕ)) → l ≡ streamOf (cs ++ ds) → at ≡ length (streamOf cs) → ds ≡ w .left
+  walk-left cs ds e k =
+      stream-injective ds (w .left) (sym (drop-at (streamOf cs) (streamOf ds) at (sym k)) ∙ ap (drop at) (sym (e ∙ stream-append cs ds)) ∙ w .stands)
 
   pub walk-ahead : at < length l → Next l at (w .left)
   walk-ahead h = next-record l at (w .left) (w .stands) h

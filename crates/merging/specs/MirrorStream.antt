@@ -3,12 +3,16 @@ use mathlib.Core.Path.{_≡_}
 use mathlib.Core.List.{List, [], _∷_, _++_, map}
 use mathlib.Core.Bool.{Bool, true, false}
 use mathlib.Core.Option.{Option, none, some}
-use Prim.Native.Nat.{ℕ, _+_, _-_, _≤_}
+use Prim.Native.Nat.{ℕ, _+_, _-_, _≤_, _<_}
+use lib.Dec.{eqb}
 use lib.ListN.{length, take, drop}
 use Rattle.expression.specs.MeaningExpression.{Expr, reference, andor, «and», oneof}
 use Rattle.expression.specs.MirrorNodes.{flat}
 use Rattle.merging.specs.MeaningMerging.{Combined, Pair}
+use Rattle.merging.specs.Claims.{firsts}
 use Rattle.merging.specs.declared.Combination.{Combination}
+use Rattle.merging.specs.declared.Entry as entry
+use Rattle.merging.specs.declared.Entry.{Entry}
 use Rattle.merging.specs.declared.Owner.{Owner}
 use Rattle.merging.specs.declared.Owner.the-variants.{At, Past}
 
@@ -68,3 +72,30 @@ aloneOf (e ∷ d ∷ es) stop = record { found = true; start = 0; stop = stop }
 abbrev pub ownerOf : Option ℕ → Owner
 ownerOf none = Past
 ownerOf (some p) = At p
+
+-- ---- the owners in order, from a record on
+
+-- a record begins at the place, or the last ends there
+pub record RecordsFrom (l : List ℕ) (from : ℕ) : Type 0 where
+  pub passed : List (Combined ℕ)
+  pub coming : List (Combined ℕ)
+  pub is : l ≡ streamOf (passed ++ coming)
+  pub place : from ≡ length (streamOf passed)
+
+-- the owners that come and are none of those passed
+abbrev pub ownersFrom : (passed coming : List (Combined ℕ)) → List ℕ
+ownersFrom cs ds = firsts eqb (map (λ (c : Combined ℕ). c .owner) cs) (map (λ (c : Combined ℕ). c .owner) ds)
+
+-- the first of them, with the place behind its record
+pub record EntryAt (cs ds : List (Combined ℕ)) (owner next : ℕ) : Type 0 where
+  pub passed : List (Combined ℕ)
+  pub coming : List (Combined ℕ)
+  pub same : cs ++ ds ≡ passed ++ coming
+  pub place : next ≡ length (streamOf passed)
+  pub further : length (streamOf cs) < next
+  pub within : next ≤ length (streamOf (cs ++ ds))
+  pub owners : ownersFrom cs ds ≡ owner ∷ ownersFrom passed coming
+
+unfoldable pub EntryIs : (cs ds : List (Combined ℕ)) → Entry → Type 0
+EntryIs cs ds (entry.the-variants.At owner next) = EntryAt cs ds owner next
+EntryIs cs ds entry.the-variants.Past = ownersFrom cs ds ≡ []

@@ -2,7 +2,7 @@
 //
 // Gathering's items in lent memory: records of an owner and the nodes of its expression, and what the records of one owner make.
 ghost use mathlib.Core.Path.{_≡_};
-ghost use mathlib.Core.List.{List, [], map};
+ghost use mathlib.Core.List.{List, [], _++_, map};
 ghost use Prim.Native.Nat.{ℕ, _+_, _≤_, _<_, _^_};
 ghost use lib.Dec.{eqb};
 ghost use lib.ListN.{length, getD, replicate, getElem?};
@@ -13,7 +13,7 @@ ghost use Rattle.expression.specs.Told.{toldValued};
 ghost use Rattle.merging.specs.MeaningMerging.{Combined, Pair, find, references};
 ghost use Rattle.merging.specs.MeaningItems.{factors, exprsOf, subsOf, allFactors, fresh, combinedOf};
 ghost use Rattle.merging.specs.Claims.{firsts};
-ghost use Rattle.merging.specs.MirrorStream.{streamOf, pairsOf, Records, Pairs, Item, Appended, isFound, Holds, aloneOf, ownerOf};
+ghost use Rattle.merging.specs.MirrorStream.{streamOf, pairsOf, Records, Pairs, Item, Appended, isFound, Holds, aloneOf, ownerOf, RecordsFrom, EntryIs};
 use expression::ANDOR;
 use expression::DEPTH;
 use expression::NODE;
@@ -34,6 +34,12 @@ pub struct Combination {
 
 pub enum Owner {
     At(u16),
+    Past,
+}
+
+// An owner that no earlier record has, and where the record after its first begins.
+pub enum Entry {
+    At { owner: u16, next: usize },
     Past,
 }
 
@@ -83,6 +89,24 @@ pub fn occurs(stream: &[u16], owner: u16, index: u16) -> bool
     false
 }
 
+// The next owner in order of first entry, from the record that begins here.
+pub fn next_owner(stream: &[u16], from: usize) -> Entry
+    requires { ⌜ RecordsFrom (now stream) from ⌝ }
+    ensures { λ r. ⌜ ((cs ds : List (Combined ℕ)) → now (stream .entry) ≡ streamOf (cs ++ ds) → from ≡ length (streamOf cs) → EntryIs cs ds r) ⌝ }
+{
+    let mut at = from;
+    while at < stream.len() {
+        let owner = stream[at];
+        let next = record_end(stream, at);
+        if is_owner(&stream[..at], owner) {
+            at = next;
+        } else {
+            return Entry::At { owner, next };
+        }
+    }
+    Entry::Past
+}
+
 // The number-th of the owners, in order of first entry.
 pub fn owner_at(stream: &[u16], number: usize) -> Owner
     requires { ⌜ Records (now stream) ⌝ }
@@ -90,19 +114,16 @@ pub fn owner_at(stream: &[u16], number: usize) -> Owner
 {
     let mut left = number;
     let mut at = 0;
-    while at < stream.len() {
-        let owner = stream[at];
-        if is_owner(&stream[..at], owner) {
-            at = record_end(stream, at);
-        } else {
-            if left == 0 {
-                return Owner::At(owner);
-            }
-            left -= 1;
-            at = record_end(stream, at);
+    loop {
+        let Entry::At { owner, next } = next_owner(stream, at) else {
+            return Owner::Past;
+        };
+        if left == 0 {
+            return Owner::At(owner);
         }
+        left -= 1;
+        at = next;
     }
-    Owner::Past
 }
 
 // Numbers go behind those that are used.

@@ -3,7 +3,7 @@ use mathlib.Core.Path.{_≡_, refl, sym, _∙_, ap}
 use mathlib.Core.List.{List, [], _∷_, _++_}
 use mathlib.Core.Logic.{_⊎_, inl, inr}
 use mathlib.Core.Bool.{Bool, true, false}
-use Prim.Native.Nat.{ℕ, zero, suc, _+_, _*_, _/_, _%_, _≤_, _<_}
+use Prim.Native.Nat.{ℕ, zero, suc, _+_, _*_, _/_, _%_, _^_, _≤_, _<_}
 use native.Mathlib.Omega.{arith}
 use native.Mathlib.Nat.{div-lt-self}
 use lib.Dec.{ltb}
@@ -66,6 +66,10 @@ digits-few (suc k) n h =
 pub decimal-length : (n : ℕ) → n ≤ 65535 → length (decimal n) ≤ 5
 decimal-length n h = digits-few 4 n (omega arith)
 
+-- of 64 bits
+pub decimal-wide : (n : ℕ) → n < 2 ^ 64 → length (decimal n) ≤ 20
+decimal-wide n h = digits-few 19 n (omega arith)
+
 -- ---- the ways through `put_decimal`
 pub puts-digit : (n d at r : ℕ) (x y : List ℕ) → n < 10 → d ≡ 0x30 + n → Puts (d ∷ []) at r x y → Puts (decimal n) at r x y
 puts-digit n d at r x y h e f = rw (decimal-one n h, ← e) f
@@ -74,9 +78,15 @@ pub puts-digits : (n d at b r : ℕ) (x y z : List ℕ) → 10 ≤ n → d ≡ 0
     → Puts (decimal (n / 10)) at b x y → Puts (d ∷ []) b r y z → Puts (decimal n) at r x z
 puts-digits n d at b r x y z h e f g = rw (decimal-more n h, ← e) (puts-on _ _ _ _ _ _ _ _ f g)
 
--- room for one digit more
-pub digit-room : (n at b : ℕ) (x y : List ℕ) → 10 ≤ n → n ≤ 65535 → at + 5 ≤ length x → Puts (decimal (n / 10)) at b x y → b + 1 ≤ length y
-digit-room n at b x y h k g f =
-    omega (arith, f .end, f .size, ap length (decimal-more n h), length-append (decimal (n / 10)) ((0x30 + n % 10) ∷ []), decimal-length n k)
+-- room for all digits is room for the first, for those before the last, and for the last
+pub one-room : (n at size : ℕ) → n < 10 → at + length (decimal n) ≤ size → at + 1 ≤ size
+one-room n at size h g = omega (arith, ap length (decimal-one n h))
 
-pub ruleset digits = (puts-digit, puts-digits, digit-room)
+pub tenth-room : (n at size : ℕ) → 10 ≤ n → at + length (decimal n) ≤ size → at + length (decimal (n / 10)) ≤ size
+tenth-room n at size h g = omega (arith, ap length (decimal-more n h), length-append (decimal (n / 10)) ((0x30 + n % 10) ∷ []))
+
+pub last-room : (n at b : ℕ) (x y : List ℕ) → 10 ≤ n → at + length (decimal n) ≤ length x → Puts (decimal (n / 10)) at b x y → b + 1 ≤ length y
+last-room n at b x y h g f =
+    omega (arith, f .end, f .size, ap length (decimal-more n h), length-append (decimal (n / 10)) ((0x30 + n % 10) ∷ []))
+
+pub ruleset digits = (puts-digit, puts-digits, one-room, tenth-room, last-room)

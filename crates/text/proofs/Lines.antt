@@ -61,6 +61,9 @@ start-length w s i = simp (length-append, path-length) (omega arith)
 pub count-small : (count : Count) (n : ℕ) → count ≡ Is n → Counted count → n ≤ 65535
 count-small count n e h = rw e at h
 
+pub count-fits : (count : Count) (n : ℕ) → count ≡ Is n → Counted count → (at size : ℕ) → at + 13 ≤ size → at + length (decimal n) ≤ size
+count-fits count n e h at size k = omega (arith, decimal-length n (count-small count n e h))
+
 module _ {at r : ℕ} {x y : List ℕ} where
   pub count-room : (count : Count) (n : ℕ) → count ≡ Is n → Counted count → Puts (decimal n) at r x y → r ≤ at + 13
   count-room count n e h f = omega (arith, f .end, decimal-length n (count-small count n e h))
@@ -96,4 +99,4 @@ pub item-line : (w s i rest : List ℕ) → w ++ (blank ++ (pathText s i ++ (bla
 unfolding startText
 item-line w s i rest = simp append-assoc
 
-pub ruleset lines = (puts-one, puts-zero, puts-first, puts-next, count-small, count-room, puts-count, puts-no-count, flags-room, puts-flags, puts-no-flags)
+pub ruleset lines = (puts-one, puts-zero, puts-first, puts-next, count-fits, count-room, puts-count, puts-no-count, flags-room, puts-flags, puts-no-flags)

@@ -55,7 +55,7 @@ fn digit(value: usize) -> u8
 
 // A number in decimal: what comes before its last digit goes first.
 pub fn put_decimal(out: &mut [u8], at: usize, number: usize) -> usize
-    requires { ⌜ (number ≤ 65535) × (at + 5 ≤ length (now out)) ⌝ }
+    requires { ⌜ at + length (decimal number) ≤ length (now out) ⌝ }
     ensures { λ r. ⌜ Puts (decimal number) at r (now (out .entry)) (now (out .exit)) ⌝ }
 {
     if number < 10 {
@@ -130,8 +130,9 @@ pub fn line_end(out: &mut [u8], at: usize) -> usize
     put_byte(out, at, b'\n')
 }
 
+// A place of 64 bits has at most 20 digits.
 pub fn refused_line(out: &mut [u8], refusal: Refusal) -> usize
-    requires { ⌜ (refusal .place ≤ 65535) × (20 ≤ length (now out)) ⌝ }
+    requires { ⌜ 40 ≤ length (now out) ⌝ }
     ensures { λ r. ⌜ Puts (refusedLine (refusal .number) (refusal .place)) 0 r (now (out .entry)) (now (out .exit)) ⌝ }
 {
     let space = put_refused(out, 0, refusal.number);

@@ -57,7 +57,7 @@ few-by : (k : ℕ) (s : List ℕ) (from e : ℕ) → e - from < k → Few s from
 few-by zero s from e h = absurd (not-suc-le-zero h)
 few-by (suc k) s from e h = step s from e (fieldAt s from e) refl (λ b i j. few-by k s b e (omega arith))
 
-few : (s : List ℕ) → length (declarations (schemasIn s)) ≤ length s
+pub few : (s : List ℕ) → length (declarations (schemasIn s)) ≤ length s
 unfolding declarations schemasIn treeOf
 few s = let z = few-by (suc (length s)) s 0 (length s) (omega arith) 0 in omega arith
 

@@ -17,7 +17,7 @@ use Rattle.schemas.specs.MeaningSchemas.{Schema}
 use Rattle.scope.specs.MeaningScope.{Path, samePath}
 use Rattle.scope.specs.MeaningQuery.{pathQuery}
 use Rattle.scope.specs.Told.{toldPath}
-use Rattle.scope.specs.MirrorScope.{pathIn}
+use Rattle.scope.specs.Held.{pathIn}
 use Rattle.scope.specs.declared.Path as code
 use Rattle.namespace.specs.MeaningOrder.{schemasIn, inOrder, Answers}
 use Rattle.namespace.proofs.Asking.{path-back}

@@ -16,7 +16,7 @@ use Rattle.scope.specs.MeaningScope.{ScopeType, placeOf}
 use Rattle.scope.specs.MeaningScope.ScopeType.{entity, alias, function, procedure, query, repeat, rule, schema, subType, type}
 use Rattle.scope.specs.MeaningQuery.{pathQuery}
 use Rattle.scope.specs.Told.{toldKind, toldStep, toldPath}
-use Rattle.scope.specs.MirrorScope.{pathIn}
+use Rattle.scope.specs.Held.{pathIn}
 use Rattle.scope.specs.MirrorQuery.{askedPathOf}
 use Rattle.scope.specs.declared.Path.{Path}
 use Rattle.scope.specs.declared.AskedPath.{AskedPath}
@@ -51,6 +51,23 @@ unfolding soughtOf
 lost none n e = refl
 lost (some d) n e = clash (cc)
 
+-- what the number says that is found for a path
+module _ (rd : Reading) (xs : List Schema) (p : meaning.Path) (v : Sought) (vv : v ≡ soughtOf (declarationFor rd xs p)) where
+  pub walks-nowhere : (n : ℕ) → v ≡ Past n → Walks rd xs p (refused 7 0)
+  walks-nowhere n e = not-declared rd xs p (lost (declarationFor rd xs p) n (sym e ∙ vv))
+
+  module _ (n : ℕ) (e : v ≡ At n) where
+    leads : (d : Declaration) × (declarationFor rd xs p ≡ some d) × (d .number ≡ n)
+    leads = found (declarationFor rd xs p) n (sym e ∙ vv)
+
+    pub walks-there : (k : Walked) → toldWalked k ≡ walkedBy rd xs (length (declarations xs) - 1) n → Walks rd xs p (toldWalked k)
+    walks-there k kk = let d = leads in subst (Walks rd xs p) (ap (λ (m : ℕ). walkedBy rd xs (length (declarations xs) - 1) m) (d .2) ∙ sym kk) (walks-by-number rd xs p (d .0) (d .1))
+
+    pub enumerates-there : (flag : Bool) → ((r : Reading) → flag ≡ isEnumeration r xs (getElem? (declarations xs) n)) → flag ≡ isEnumeration rd xs (declarationFor rd xs p)
+    enumerates-there flag f =
+        let d = leads in
+        f rd ∙ ap (isEnumeration rd xs) (ap (getElem? (declarations xs)) (sym (d .2)) ∙ at-number xs (d .0) (get-lowest rd xs p (d .0) (d .1) .0) .1 ∙ sym (d .1))
+
 module _ (rd : Reading) (s q : List ℕ) (x : Path) (v : Sought) (vv : v ≡ soughtOf (declarationFor rd (schemasIn s) (toldPath q x))) where
   abbrev xs : List Schema
   xs = schemasIn s
@@ -60,29 +77,21 @@ module _ (rd : Reading) (s q : List ℕ) (x : Path) (v : Sought) (vv : v ≡ sou
 
   pub named-none : (n : ℕ) → v ≡ Past n → (why : Refusal) → why ≡ record { number = 7; place = 0 } → NamedAs rd (schemasIn s) q x (Refused why)
   unfolding toldTypeRef byKind
-  named-none n e why k = record { walked = refused 7 0; walks = not-declared rd xs p (lost (declarationFor rd xs p) n (sym e ∙ vv)); is = tells; given = tt }
+  named-none n e why k = record { walked = refused 7 0; walks = walks-nowhere rd xs p v vv n e; is = tells; given = tt }
     where
       tells : toldTypeRef q (Refused why) ≡ byKind rd xs p (refused 7 0) type
       tells = rw k refl
 
   module _ (n : ℕ) (e : v ≡ At n) (k : Walked) (kk : toldWalked k ≡ walkedBy rd xs (length (declarations xs) - 1) n) where
-    leads : (d : Declaration) × (declarationFor rd xs p ≡ some d) × (d .number ≡ n)
-    leads = found (declarationFor rd xs p) n (sym e ∙ vv)
-
     walks : Walks rd xs p (toldWalked k)
-    walks = let d = leads in subst (Walks rd xs p) (ap (λ (m : ℕ). walkedBy rd xs (length (declarations xs) - 1) m) (d .2) ∙ sym kk) (walks-by-number rd xs p (d .0) (d .1))
-
-    flags : (flag : Bool) → ((r : Reading) → flag ≡ isEnumeration r xs (getElem? (declarations xs) n)) → flag ≡ isEnumeration rd xs (declarationFor rd xs p)
-    flags flag f =
-        let d = leads in
-        f rd ∙ ap (isEnumeration rd xs) (ap (getElem? (declarations xs)) (sym (d .2)) ∙ at-number xs (d .0) (get-lowest rd xs p (d .0) (d .1) .0) .1 ∙ sym (d .1))
+    walks = walks-there rd xs p v vv n e k kk
 
     pub named-ends : (flag : Bool) → ((r : Reading) → flag ≡ isEnumeration r (schemasIn s) (getElem? (declarations (schemasIn s)) n)) → (b : Bool) → k ≡ walked.Ends b → NamedAs rd (schemasIn s) q x (Named (record { path = x; «is_simple» = b; «is_enumerate» = flag }))
     unfolding toldWalked toldTypeRef byKind
     named-ends flag f b z = record { walked = done b; walks = subst (Walks rd xs p) (ap toldWalked z) walks; is = tells; given = refl }
       where
         tells : toldTypeRef q (Named (record { path = x; «is_simple» = b; «is_enumerate» = flag })) ≡ byKind rd xs p (done b) type
-        tells = rw (flags flag f) refl
+        tells = rw (enumerates-there rd xs p v vv n e flag f) refl
 
     pub named-refused : (why : Refusal) → k ≡ walked.Refused why → NamedAs rd (schemasIn s) q x (Refused why)
     unfolding toldWalked toldTypeRef byKind

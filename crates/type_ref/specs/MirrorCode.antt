@@ -13,7 +13,7 @@ use Rattle.schemas.specs.MeaningSchemas.{Schema}
 use Rattle.scope.specs.MeaningScope as meaning
 use Rattle.scope.specs.MeaningScope.ScopeType.{type}
 use Rattle.scope.specs.Told.{toldPath}
-use Rattle.scope.specs.MirrorScope.{pathIn}
+use Rattle.scope.specs.Held.{pathIn}
 use Rattle.scope.specs.declared.Path.{Path}
 use Rattle.constraints.specs.MeaningQuestions.{isSupertype}
 use Rattle.type_ref.specs.MeaningTypes.{Walks, byKind}

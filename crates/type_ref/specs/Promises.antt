@@ -8,7 +8,7 @@ use Rattle.sheet.specs.MeaningReading.{Reading}
 use Rattle.scope.specs.MeaningScope.{Path}
 use Rattle.scope.specs.MeaningQuery.{pathQuery}
 use Rattle.scope.specs.Told.{toldPath}
-use Rattle.scope.specs.MirrorScope.{pathIn}
+use Rattle.scope.specs.Held.{pathIn}
 use Rattle.namespace.specs.MeaningOrder.{schemasIn, Answers}
 use Rattle.constraints.specs.MeaningQuestions.{enough, left}
 use Rattle.type_ref.specs.MeaningTypes.{Walks, fromPath}

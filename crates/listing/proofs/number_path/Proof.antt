@@ -4,8 +4,8 @@ use borrow.Author.Needs.{needs}
 use Rattle.listing.proofs.number_path.Statement.{statement}
 use Rattle.listing.proofs.number_path.Tie as tie
 
-names-at-requires : tie.Need-names-at-requires
-names-at-requires c κs = search needs
+names-of-requires : tie.Need-names-of-requires
+names-of-requires c κs = search needs
 
 bytes-at-requires : tie.Need-bytes-at-requires
 bytes-at-requires c κs = search needs
@@ -26,7 +26,7 @@ pub number-path-spec : {M : Type 1} → statement M
 number-path-spec =
     tie.close
     (tie.spec
-    names-at-requires
+    names-of-requires
     bytes-at-requires
     bytes-at-requires-2
     put-next-requires

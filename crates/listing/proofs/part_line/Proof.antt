@@ -7,10 +7,10 @@ use Rattle.listing.proofs.part_line.Statement.{statement}
 use Rattle.listing.proofs.part_line.Tie as tie
 
 abbrev Inv-loop : tie.InvT-loop
-Inv-loop sheet number row out₀ count at₀ i₀ out at i = Listing sheet number row count at₀ i at out₀ out
+Inv-loop sheet names number row out₀ count at₀ i₀ out at i = Listing sheet number row count at₀ i at out₀ out
 
 abbrev μ-loop : tie.MeasureT-loop
-μ-loop sheet number row out₀ count at₀ i₀ out at i = count - i
+μ-loop sheet names number row out₀ count at₀ i₀ out at i = count - i
 
 shared-slice-read-count : tie.Need-shared-slice-read-count Inv-loop μ-loop
 shared-slice-read-count c = search (listing, needs)
@@ -34,7 +34,7 @@ shared-slice-read-index : tie.Need-shared-slice-read-index Inv-loop μ-loop
 shared-slice-read-index c = search (listing, needs)
 
 cast-index : tie.Need-cast-index Inv-loop μ-loop
-cast-index c = omega (arith, c .shared-slice-known4 .given (1 + c .before .before .loop .i))
+cast-index c = omega (arith, c .shared-slice-known5 .given (1 + c .before .before .loop .i))
 
 number-path-requires : tie.Need-number-path-requires Inv-loop μ-loop
 number-path-requires c κs = search (listing, needs)

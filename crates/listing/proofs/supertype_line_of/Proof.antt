@@ -4,8 +4,8 @@ use borrow.Author.Needs.{needs}
 use Rattle.listing.proofs.supertype_line_of.Statement.{statement}
 use Rattle.listing.proofs.supertype_line_of.Tie as tie
 
-names-at-requires : tie.Need-names-at-requires
-names-at-requires c κs = search needs
+names-of-requires : tie.Need-names-of-requires
+names-of-requires c κs = search needs
 
 bytes-at-requires : tie.Need-bytes-at-requires
 bytes-at-requires c κs = search needs
@@ -26,7 +26,7 @@ pub supertype-line-of-spec : {M : Type 1} → statement M
 supertype-line-of-spec =
     tie.close
     (tie.spec
-    names-at-requires
+    names-of-requires
     bytes-at-requires
     bytes-at-requires-2
     supertype-line-requires

@@ -7,7 +7,7 @@ use Rattle.text.proofs.part_start.Statement.{statement}
 use Rattle.text.proofs.part_start.Tie as tie
 
 put-decimal-requires : tie.Need-put-decimal-requires
-put-decimal-requires c κs = search needs
+put-decimal-requires c κs = omega (arith, decimal-length (c .before .before .args .number) (c .before .before .pre .0))
 
 put-byte-requires : tie.Need-put-byte-requires
 put-byte-requires c κs = omega (arith, decimal-length (c .before .before .before .before .before .before .args .number) (c .before .before .before .before .before .before .pre .0))

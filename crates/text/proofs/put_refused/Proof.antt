@@ -17,7 +17,7 @@ put-byte-requires : tie.Need-put-byte-requires
 put-byte-requires c κs = search needs
 
 put-decimal-requires : tie.Need-put-decimal-requires
-put-decimal-requires c κs = search needs
+put-decimal-requires c κs = omega (arith, decimal-length (c .before .before .before .before .before .before .before .before .before .before .before .args .number) (omega arith))
 
 same-length : tie.Need-same-length
 same-length c = search needs

@@ -1,7 +1,7 @@
 -- `refused_line` meets its contract.
 use native.Mathlib.Omega.{arith}
 use Rattle.text.proofs.Putting.{putting}
-use Rattle.text.proofs.Digits.{decimal-length}
+use Rattle.text.proofs.Digits.{decimal-wide}
 use Rattle.text.proofs.Lines.{refused-line}
 use borrow.Author.Needs.{needs}
 use Rattle.text.proofs.refused_line.Statement.{statement}
@@ -14,10 +14,10 @@ put-byte-requires : tie.Need-put-byte-requires
 put-byte-requires c κs = search (putting, needs)
 
 put-decimal-requires : tie.Need-put-decimal-requires
-put-decimal-requires c κs = search (putting, needs)
+put-decimal-requires c κs = omega (arith, decimal-wide (c .before .before .before .before .before .before .before .before .before .before .args .refusal .place) (omega arith))
 
 line-end-requires : tie.Need-line-end-requires
-line-end-requires c κs = omega (arith, decimal-length (c .before .before .before .before .before .before .before .before .before .before .before .before .before .before .args .refusal .place) (c .before .before .before .before .before .before .before .before .before .before .before .before .before .before .pre .0))
+line-end-requires c κs = omega (arith, decimal-wide (c .before .before .before .before .before .before .before .before .before .before .before .before .before .before .args .refusal .place) (omega arith))
 
 same-length : tie.Need-same-length
 same-length c = search needs
