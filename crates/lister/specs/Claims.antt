@@ -1,0 +1,20 @@
+-- What is proved of the listing, to be read without the proofs: each claim is a type, and proofs/Proved.antt has a member of each.
+use Prim.Native.Nat.{ℕ}
+use mathlib.Core.Path.{_≡_}
+use mathlib.Core.List.{List}
+use Rattle.sheet.specs.MeaningReading.{Reading, rust}
+use Rattle.sheet.specs.Claims.{AllBytes}
+use Rattle.schemas.specs.MeaningExamples.{cam}
+use Rattle.listing.specs.MeaningWhole.{Lists}
+use Rattle.lister.specs.MeaningExample.{cam-lines}
+
+-- a sheet has a listing, and one only
+abbrev pub Some-listing : Type 0
+Some-listing = (rd : Reading) (s : List ℕ) → AllBytes s → (ls : List (List ℕ)) × Lists rd s ls
+
+abbrev pub One-listing : Type 0
+One-listing = (rd : Reading) (s : List ℕ) (ls ls' : List (List ℕ)) → Lists rd s ls → Lists rd s ls' → ls ≡ ls'
+
+-- document 01's example prints its three lines
+abbrev pub Cam-listed : Type 0
+Cam-listed = (ls : List (List ℕ)) → Lists rust cam ls → ls ≡ cam-lines
