@@ -4,11 +4,12 @@ from collections import Counter, defaultdict
 
 from checker.kinds import kinds_of
 
-from .judge import LIMITS, judge, refusal_of
+from .judge import LIMITS, items, judge, refusal_of, text_of
 
 OUTCOMES = ("agree", "listed", "silent", "differ")
 ON_SHEETS = ("verdict", "resolve", "get", "as_path", "schema_name", "item_name", "is_supertype",
              "supertype", "list", "number_of", "set_at", "from_path", "listing")
+NUMBERS = range(1, 18)  # of refusal
 
 
 class Tally:
@@ -18,9 +19,11 @@ class Tally:
         self.outcomes = defaultdict(Counter)
         self.kinds = Counter()
         self.refusals = Counter()
+        self.items = Counter()
         self.limits = Counter()
         self.costly = 0
         self.sheets = set()
+        self.asked = set()
         self.port = Counter()
 
     def enter(self, question, rust, checker):
@@ -33,6 +36,10 @@ class Tally:
         self.costly += rust == "silent costly"
         if outcome == "listed":
             self.limits[number] += 1
+        if asked == "listing" and number is None:
+            self.items.update(_refused_items(text_of(checker)))
+        if asked in ON_SHEETS:
+            self.asked.add(words[0])
         if asked in ON_SHEETS and outcome == "agree":
             self._enter_sheet(words[0])
         if asked == "verdict" and outcome == "silent":
@@ -70,6 +77,12 @@ class Tally:
         print("by number of refusal, as the checker answers")
         for number, count in sorted(self.refusals.items(), key=_number_first):
             print(f"  {count:7} {'not refused' if number is None else number}")
+        print("items of listings by number of refusal")
+        for number, count in sorted(self.items.items()):
+            print(f"  {count:7} {number}")
+        missing = [number for number in NUMBERS if not self.refusals[number] + self.items[number]]
+        print("numbers of refusal that were not met:", *missing or ["none"])
+        print(f"different sheets asked, valid and damaged: {len(self.asked)}")
         print(f"by kind of sheet; different sheets on which both agree: {len(self.sheets)}")
         for kind, count in sorted(self.kinds.items()):
             print(f"  {count:7} {kind}")
@@ -80,6 +93,11 @@ class Tally:
               f"{self.costly} of them since the Rust would take too long")
         print("not compared with the Rust: the numbers 1 to 5, 12 and 15, places other than "
               "those of 6 and 8, short buffers and workspaces")
+
+
+def _refused_items(text):
+    told = (item[0].split(" ") for item in items(text))
+    return [int(words[3]) for words in told if words[2] == "refused"]
 
 
 def _number_first(entry):

@@ -1,14 +1,25 @@
 """Questions `listing`."""
 
 from . import coding as c
+from . import limits
 from .corner_sheets import cam, long_chains, of_any, of_x, types
 from .damage import perhaps_damaged, truncations
 from .sheets import sheet, wide_sheet
 
 
+def every_corner():
+    """What names and types can do, every limit, every front part of a sheet."""
+    yield b""
+    for made in (of_any(), of_x(), types(), long_chains()):
+        yield from made
+    yield from truncations(cam())
+    for made in (limits.small(), limits.large(), limits.lengths()):
+        yield from made
+
+
 def corners():
     """The fixed questions of this group."""
-    for data in (cam(), *of_any(), *of_x(), *types(), *long_chains(), *truncations(cam())):
+    for data in (cam(), *every_corner()):
         yield c.question("listing", data)
 
 

@@ -1,8 +1,9 @@
-// Answers the questions on parts, lists, expressions, sheets, names, supertypes and types, a line each, from standard input to standard output.
+// Answers the questions on parts, lists, expressions, sheets, names, supertypes, types and listings, a line each, from standard input to standard output.
 ghost use Prim.Native.Nat.{_≤_};
 ghost use lib.ListN.{length};
 
 mod answers;
+mod listings;
 mod names;
 mod operators;
 mod questions;
@@ -35,6 +36,10 @@ fn read_more(text: &mut [u8], held: usize) -> usize
 
 // One question's line.
 fn answer_line(line: &[u8]) {
+    if lines::is(lines::word(line, 0), b"listing") {
+        listings::answer(line);
+        return;
+    }
     let mut out = [0u8; ANSWER];
     let end = questions::answer(line, &mut out);
     let after = lines::put(&mut out, end, b'\n');

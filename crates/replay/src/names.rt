@@ -17,7 +17,7 @@ use scope::order;
 use sheet::verdict;
 
 // The longest sheet that is asked has 65,536 bytes.
-const SHEET: usize = 65600;
+pub const SHEET: usize = 65600;
 
 // A good query has at most 140 bytes, the longest that is asked 307.
 pub const QUERY: usize = 4096;
