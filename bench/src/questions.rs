@@ -139,7 +139,7 @@ pub fn list(asked: &Supertype) -> (usize, [Times; 3]) {
             black_box(memory.list(sheet, query));
         }),
     ]);
-    (rows.len() / port::ROW, times)
+    (rows.len() / dinkolafe::ROW, times)
 }
 
 fn timed<const SIDES: usize>(sides: [Side; SIDES]) -> [Times; SIDES] {

@@ -9,7 +9,7 @@ fn fixed_answers() {
     assert_eq!(questions.lines().count(), answers.lines().count());
     let mut asked = 0;
     for (question, expected) in questions.lines().zip(answers.lines()) {
-        // `eval` is no question of the library
+        // `eval` and `listing` are no questions of the library
         if let Some(answer) = protocol::answer(question) {
             assert_eq!(answer, expected, "{question}");
             asked += 1;
