@@ -2,6 +2,10 @@
 use mathlib.Core.Path.{_≡_, refl, sym, ap, _∙_}
 use mathlib.Core.List.{List, [], _∷_}
 use mathlib.Core.Bool.{Bool, true}
+use Prim.Native.Nat.{ℕ, _<_}
+use native.Mathlib.Omega.{arith}
+use lib.ListN.{take}
+use lib.Seq.{take-at}
 use Rattle.refusal.specs.MeaningAnswer.{Answer, done, mapped}
 use Rattle.sheet.specs.MeaningReading.{Reading}
 use Rattle.sheet.proofs.Proved.{some-verdict}
@@ -16,7 +20,11 @@ use Rattle.gathering.specs.MeaningCombined.{supertypes}
 use Rattle.type_ref.proofs.Proved.{walks-on, walks-once}
 use Rattle.listing.specs.MeaningListing.{supertypeLines, flagsOf, typeLinesOf, typeLines, linesOf, listed, printed}
 use Rattle.listing.specs.MeaningWhole.{AllWalked, ListsBy, Lists}
-use Rattle.lister.specs.Claims.{Some-listing, One-listing}
+use Rattle.text.specs.MirrorText.{Puts}
+use Rattle.lister.specs.MirrorRest.{Lines, Rest, Gives, Starts, Makes, over, line}
+use Rattle.lister.specs.Claims.{Some-listing, One-listing, Made-is-listed}
+use Rattle.lister.specs.declared.Cursor.{Cursor}
+use Rattle.lister.specs.declared.Line.{Line}
 
 pub some-listing : Some-listing
 unfolding Lists ListsBy AllWalked Answers
@@ -60,3 +68,30 @@ one-listing rd s ls ls' L M =
     let b = M .2 in
     let e : listed rd (schemasIn s) (L .0) ≡ listed rd (schemasIn s) (M .0) = listed-alike rd (schemasIn s) (L .0) (M .0) same in
     a .2 ∙ ap printed (answers-once rd s true (done (tt {0})) (λ u. listed rd (schemasIn s) (M .0)) (a .0) (b .0) (rw e at (a .1)) (b .1)) ∙ sym (b .2)
+
+-- ---- what is made are the lines that are left
+
+put-first : (l : List ℕ) (r : ℕ) (before after : List ℕ) → Puts l 0 r before after → take r after ≡ l
+put-first l r before after P = rw (P .put) (take-at l _ r (omega (arith, P .end)))
+
+module _ (rd : Reading) (s names : List ℕ) (walked : Path → Answer Bool) (W : AllWalked rd s walked) where
+  made-left : (work : List ℕ) (c : Cursor) (ls ms : Lines) → Makes rd s names work c ls → Rest rd s walked names work c ms → ls ≡ ms
+  unfolding Gives
+  made-left work c _ ms (over {work' = work'} {before = before} {after = after} {r = r} f e) q = none ms (f .first walked W ms q)
+    where
+      none : (ms : Lines) → Gives rd s walked names work' before after r ms → [] ≡ ms
+      none [] g = refl
+      none (m ∷ ms) g = absurd (omega (arith, e, g .0))
+  made-left work c _ ms (line {work' = work'} {before = before} {after = after} {r = r} {ls = ls} f h more) q = some ms (f .first walked W ms q) (λ k x. made-left work' (r .next) ls k more x)
+    where
+      some : (ms : Lines) → Gives rd s walked names work' before after r ms → ((k : Lines) → Rest rd s walked names work' (r .next) k → ls ≡ k) → take (r .stop) after ∷ ls ≡ ms
+      some [] g rest = absurd (omega (arith, h, g .0))
+      some (m ∷ ms) g rest = rw (put-first m (r .stop) before after (g .1), rest ms (g .2)) refl
+
+pub made-is-listed : Made-is-listed
+unfolding Lists AllWalked
+made-is-listed rd s names work c ls S M =
+    let walked : Path → Answer Bool = λ p. walks-on rd (schemasIn s) p .0 in
+    let W : AllWalked rd s walked = λ p. walks-on rd (schemasIn s) p .1 in
+    let z = S .all walked W in
+    (walked, W, rw (made-left rd s names walked W work c ls (z .0) M (z .2)) (z .1))

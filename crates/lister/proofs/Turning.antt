@@ -47,7 +47,7 @@ module _ (rd : Reading) (s names work : List ℕ) (c : Cursor) where
 
   pub end-given : c ≡ on.End → (l : List ℕ) → GivesFirst rd s names work c work l l (record { stop = 0; next = on.End })
   unfolding Rest Gives
-  end-given e l = record { first = λ walked W ls q. let z : ls ≡ [] = rw e at q in rw z (refl, refl) }
+  end-given e l = record { first = λ walked W ls q. let z : ls ≡ [] = rw e at q in rw z (refl, refl, refl) }
 
 module _ (c : Cursor) where
   pub same-falls : (d : Cursor) → c ≡ d → (r : Line) → Falls d r → Falls c r

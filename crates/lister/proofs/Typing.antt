@@ -24,7 +24,7 @@ use Rattle.text.specs.MeaningText.{typeLine}
 use Rattle.text.specs.MirrorText.{Puts}
 use Rattle.listing.specs.MeaningListing.{flagsOf, typeLinesOf, typeLines}
 use Rattle.listing.specs.MeaningWhole.{AllWalked}
-use Rattle.listing.specs.MirrorLines.{TypeAt, NextType}
+use Rattle.listing.specs.MirrorLines.{IsType, TypeAt, NextType}
 use Rattle.listing.proofs.Typing.{nth-drop, nth-below}
 use Rattle.lister.specs.MirrorRest.{typesFrom, Rest, Gives, GivesFirst, left, Falls}
 use Rattle.lister.specs.declared.Cursor.the-variants as on
@@ -40,7 +40,7 @@ module _ (s names : List ℕ) (n : ℕ) (o : Sought) (t : NextType (schemasIn s)
   -- ---- no type is left
   pub type-none : (m : ℕ) → o ≡ Past m → (rd : Reading) (work l : List ℕ) → GivesFirst rd s names work (on.Types n) work l l (record { stop = 0; next = on.End })
   unfolding Rest Gives NextType typesFrom
-  type-none m e rd work l = record { first = λ walked W ls q. rw (q .lines, (rw e at t) rd walked) (refl, refl) }
+  type-none m e rd work l = record { first = λ walked W ls q. rw (q .lines, (rw e at t) rd walked) (refl, refl, refl) }
 
   pub type-over : (c : ℕ) → Falls (on.Types c) (record { stop = 0; next = on.End })
   type-over c = record { fewer = λ k. absurd (omega arith) }
@@ -50,6 +50,9 @@ module _ (s names : List ℕ) (n : ℕ) (o : Sought) (t : NextType (schemasIn s)
     found : TypeAt xs n m
     unfolding NextType
     found = rw e at t
+
+    pub type-stands : IsType xs m
+    type-stands = let f = found in record { it = f .it; decl = f .decl; there = f .there; is = f .is }
 
     type-small : length s ≤ 65535 → m < 65535
     type-small h = let f = found in omega (arith, nth-below (declarations xs) m (f .it) (f .there), few s)
@@ -77,4 +80,4 @@ module _ (s names : List ℕ) (n : ℕ) (o : Sought) (t : NextType (schemasIn s)
               );
         }
 
-pub ruleset typing = (type-none, type-over, type-fits, type-less, type-given)
+pub ruleset typing = (type-none, type-over, type-stands, type-fits, type-less, type-given)

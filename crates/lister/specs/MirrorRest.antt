@@ -3,7 +3,7 @@ use Prim.Native.Nat.{ℕ, _+_, _*_, _-_, _≤_, _<_}
 use mathlib.Core.Path.{_≡_}
 use mathlib.Core.List.{List, [], _∷_, _++_, map}
 use mathlib.Core.Bool.{Bool}
-use lib.ListN.{length, drop}
+use lib.ListN.{length, take, drop}
 use Rattle.refusal.specs.MeaningAnswer.{Answer}
 use Rattle.sheet.specs.MeaningReading.{Reading}
 use Rattle.schemas.specs.MeaningSchemas.{Schema}
@@ -88,7 +88,7 @@ module _ (rd : Reading) (s : List ℕ) (walked : Path → Answer Bool) where
 
   -- the first of these lines is made, and the others are left; or there is none
   unfoldable pub Gives : (names work before after : List ℕ) → Line → Lines → Type 0
-  Gives names work before after r [] = (r .stop ≡ 0) × (after ≡ before)
+  Gives names work before after r [] = (r .stop ≡ 0) × (after ≡ before) × Rest names work (r .next) []
   Gives names work before after r (l ∷ ls) = (0 < r .stop) × Puts l 0 (r .stop) before after × Rest names work (r .next) ls
 
 -- some lines are left
@@ -106,7 +106,7 @@ pub record Starts (rd : Reading) (s names work : List ℕ) (c : Cursor) : Type 0
 pub record GivesFirst (rd : Reading) (s names work : List ℕ) (c : Cursor) (work' before after : List ℕ) (r : Line) : Type 0 where
   pub first : (walked : Path → Answer Bool) → AllWalked rd s walked → (ls : Lines) → Rest rd s walked names work c ls → Gives rd s walked names work' before after r ls
 
--- more than there are lines left: a supertype has fewer than 65,536, and so have the types
+-- no fewer than there are lines left: a supertype has fewer than 65,536, and so have the types
 unfoldable pub left : Cursor → ℕ
 left (cursor.the-variants.Refusal why) = 1
 left (cursor.the-variants.Supertypes x) = 65537 + 65536 * (x .streams .used - x .at)
@@ -117,3 +117,9 @@ left cursor.the-variants.End = 0
 -- there are fewer after a line
 pub record Falls (c : Cursor) (r : Line) : Type 0 where
   pub fewer : 0 < r .stop → left (r .next) < left c
+
+-- the lines that are made from a cursor on, until none is: each is what stands in the lent bytes up to the stop
+pub data Makes (rd : Reading) (s names : List ℕ) : (work : List ℕ) → Cursor → Lines → Type 0 where
+  over : {work work' before after : List ℕ} {c : Cursor} {r : Line} → GivesFirst rd s names work c work' before after r → r .stop ≡ 0 → Makes rd s names work c []
+  line : {work work' before after : List ℕ} {c : Cursor} {r : Line} {ls : Lines} → GivesFirst rd s names work c work' before after r → 0 < r .stop
+      → Makes rd s names work' (r .next) ls → Makes rd s names work c (take (r .stop) after ∷ ls)

@@ -56,6 +56,13 @@ Noted s names = (i : ℕ) → 4 * i + 4 ≤ length names → NotedAt s names i
 
 -- ---- types
 
+-- the declaration with the number is a type
+pub record IsType (xs : List Schema) (m : ℕ) : Type 0 where
+  pub it : Declaration
+  pub decl : TypeDecl
+  pub there : getElem? (declarations xs) m ≡ some it
+  pub is : it .named ≡ a-type decl
+
 -- the declaration with the number is a type, and those from n up to it have no lines
 pub record TypeAt (xs : List Schema) (n m : ℕ) : Type 0 where
   pub it : Declaration

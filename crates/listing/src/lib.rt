@@ -19,7 +19,7 @@ ghost use Rattle.text.specs.Told.{toldCount, toldFlags};
 ghost use Rattle.listing.specs.MeaningLines.{namesOf, numberText, lineOfPart, lineOfSupertype};
 ghost use Rattle.listing.specs.MeaningListing.{flagsOf};
 ghost use Rattle.listing.specs.MeaningWhole.{AllWalked};
-ghost use Rattle.listing.specs.MirrorLines.{bytesAt, Short, Spells, RowStands, spanAt, Noted, NextType};
+ghost use Rattle.listing.specs.MirrorLines.{bytesAt, Short, Spells, RowStands, spanAt, Noted, NextType, IsType};
 use lookup::Sought;
 use lookup::Span;
 use lookup::name_of;
@@ -242,6 +242,7 @@ pub fn type_line_of(
     number: usize,
     out: &mut [u8],
 ) -> usize
+    requires { ⌜ IsType (schemasIn (now sheet)) number ⌝ }
     requires { ⌜ Short (now sheet) × (length (now sheet) ≤ 65535) × Noted (now sheet) (now names) × (100 ≤ length (now out)) ⌝ }
     ensures { λ r. ⌜ ((walked : meaning.Path → Answer Bool) → AllWalked (toldReading reading) (now (sheet .entry)) walked → (d : Declaration) (t : TypeDecl) → getElem? (declarations (schemasIn (now (sheet .entry)))) number ≡ some d → d .named ≡ a-type t → Puts (typeLine (schemaName (d .path)) (itemName (d .path)) (flagsOf (toldReading reading) (schemasIn (now (sheet .entry))) walked (d .path))) 0 r (now (out .entry)) (now (out .exit))) ⌝ }
 {

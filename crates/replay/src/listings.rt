@@ -1,25 +1,20 @@
 // The question `listing`. Its answer is written line by line: it may be longer than any buffer here.
-ghost use Prim.Native.Nat.{_≤_};
-ghost use lib.ListN.{length};
 ghost use Rattle.sheet.specs.Told.{toldReading};
 ghost use Rattle.lister.specs.MirrorRest.{AtCursor};
 use crate::names::SHEET;
+use constraints::WORK;
 use libc::STDOUT_FILENO;
 use lines::Number;
 use lister::Cursor;
+use lister::LINE;
 use lister::next_line;
 use lister::start;
 use sheet::Reading;
-
-// No line is longer.
-const LINE: usize = 800;
 
 // Two digits a byte.
 const DIGITS: usize = 1600;
 
 const NAMES: usize = 1024;
-
-const WORK: usize = 32768;
 
 // Writes the answer to a line.
 pub fn answer(line: &[u8]) {

@@ -17,7 +17,7 @@ returns : tie.Need-returns
 returns c = search (typing, needs)
 
 type-line-of-requires : tie.Need-type-line-of-requires
-type-line-of-requires c κs = search needs
+type-line-of-requires c κs = search (typing, needs)
 
 add-t12 : tie.Need-add-t12
 add-t12 c = search (typing, needs)
