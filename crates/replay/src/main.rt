@@ -12,6 +12,7 @@ mod valuing;
 
 use libc::STDIN_FILENO;
 use libc::STDOUT_FILENO;
+use lines::Number;
 
 // A line is at most so long.
 const LONGEST: usize = 300000;
@@ -34,10 +35,22 @@ fn read_more(text: &mut [u8], held: usize) -> usize
     held + read_once(&mut text[held..])
 }
 
+// A question `listing`: its answer may be longer than any buffer here, so it is written as it is made.
+fn answer_listing(line: &[u8]) {
+    let mut bytes = [0u8; names::SHEET];
+    let Number::Is(count) = lines::bytes(lines::word(line, 1), &mut bytes) else {
+        io::write_all(STDOUT_FILENO, b"unknown\n");
+        return;
+    };
+    io::write_all(STDOUT_FILENO, b"ok ");
+    listings::put_listing(&bytes[0..count]);
+    io::write_all(STDOUT_FILENO, b"\n");
+}
+
 // One question's line.
 fn answer_line(line: &[u8]) {
     if lines::is(lines::word(line, 0), b"listing") {
-        listings::answer(line);
+        answer_listing(line);
         return;
     }
     let mut out = [0u8; ANSWER];

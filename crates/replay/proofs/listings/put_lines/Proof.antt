@@ -1,4 +1,4 @@
--- `put_lines`: lines are left where the cursor stands.
+-- `put_lines`: lines are left where the cursor stands; whether one was made so far is known.
 use mathlib.Core.Path.{_≡_}
 use Prim.Native.Nat.{_≤_, _<_}
 use native.Mathlib.Omega.{arith}
@@ -6,19 +6,20 @@ use lib.ListN.{length}
 use Rattle.sheet.specs.Told.{toldReading}
 use Rattle.lister.specs.MirrorRest.{AtCursor, left}
 use Rattle.lister.proofs.Turning.{goes-on, line-inside}
+use Rattle.replay.proofs.Listed.{Making, making}
 use borrow.Author.Needs.{needs}
 use Rattle.replay.proofs.listings.put_lines.Statement.{statement}
 use Rattle.replay.proofs.listings.put_lines.Tie as tie
 
 abbrev Inv-loop : tie.InvT-loop
-Inv-loop reading sheet names workspace₀ text₀ cursor₀ none₀ workspace text cursor none =
-    AtCursor (toldReading reading) sheet names workspace cursor × (length text ≡ 800) × (length workspace ≡ length workspace₀)
+Inv-loop reading sheet names workspace₀ text₀ cursor₀ some₀ workspace text cursor some =
+    AtCursor (toldReading reading) sheet names workspace cursor × Making (toldReading reading) sheet names workspace₀ cursor₀ some workspace cursor × (length text ≡ 800) × (length workspace ≡ length workspace₀)
 
 abbrev μ-loop : tie.MeasureT-loop
-μ-loop reading sheet names workspace₀ text₀ cursor₀ none₀ workspace text cursor none = left cursor
+μ-loop reading sheet names workspace₀ text₀ cursor₀ some₀ workspace text cursor some = left cursor
 
 loop-holds : tie.Need-loop-holds Inv-loop μ-loop
-loop-holds c = search needs
+loop-holds c = search (making, needs)
 
 slice-aggregate-next-line : tie.Need-slice-aggregate-next-line Inv-loop μ-loop
 slice-aggregate-next-line c = search needs
@@ -33,7 +34,7 @@ same-length : tie.Need-same-length Inv-loop μ-loop
 same-length c = search needs
 
 returns : tie.Need-returns Inv-loop μ-loop
-returns c = search needs
+returns c = search (making, needs)
 
 sub-put-digits : tie.Need-sub-put-digits Inv-loop μ-loop
 sub-put-digits c = search needs
@@ -57,7 +58,7 @@ loop-less c = c .before .before .before .before .before .before .before .next-li
 loop-again : tie.Need-loop-again Inv-loop μ-loop
 loop-again c =
     let some : 0 < c .before .before .before .before .before .before .before .next-line .result .stop = omega arith in
-    (search (goes-on, needs), search needs, search needs)
+    (search (goes-on, needs), search (making, needs), search needs, search needs)
 
 pub put-lines-spec : {M : Type 1} → statement M
 put-lines-spec =

@@ -1,8 +1,10 @@
--- Lines are left at the start.
+-- Lines are left at the start, and whether there is one is told of the whole listing.
 use borrow.Author.Needs.{needs}
+use Rattle.sheet.specs.Told.{toldReading}
 use Rattle.lister.proofs.Turning.{starts-at}
-use Rattle.replay.proofs.listings.of_sheet.Statement.{statement}
-use Rattle.replay.proofs.listings.of_sheet.Tie as tie
+use Rattle.replay.proofs.Listed.{told-whole}
+use Rattle.replay.proofs.listings.put_listing.Statement.{statement}
+use Rattle.replay.proofs.listings.put_listing.Tie as tie
 
 slice-aggregate-start : tie.Need-slice-aggregate-start
 slice-aggregate-start c = search needs
@@ -13,12 +15,6 @@ slice-aggregate-start-2 c = search needs
 start-requires : tie.Need-start-requires
 start-requires c κs = search needs
 
-slice-aggregate-write-all : tie.Need-slice-aggregate-write-all
-slice-aggregate-write-all c = search needs
-
-write-all-requires : tie.Need-write-all-requires
-write-all-requires c κs = search needs
-
 slice-aggregate-put-lines : tie.Need-slice-aggregate-put-lines
 slice-aggregate-put-lines c = search needs
 
@@ -28,27 +24,18 @@ slice-aggregate-put-lines-2 c = search needs
 put-lines-requires : tie.Need-put-lines-requires
 put-lines-requires c κs = search (starts-at, needs)
 
-slice-aggregate-write-all-2 : tie.Need-slice-aggregate-write-all-2
-slice-aggregate-write-all-2 c = search needs
-
-write-all-requires-2 : tie.Need-write-all-requires-2
-write-all-requires-2 c κs = search needs
-
 returns : tie.Need-returns
-returns c = search needs
+unfolding toldReading
+returns c = told-whole _ _ _ _ _ _ (c .before .before .before .before .before .before .start .ensures) (c .before .put-lines .ensures)
 
-pub of-sheet-spec : {M : Type 1} → statement M
-of-sheet-spec =
+pub put-listing-spec : {M : Type 1} → statement M
+put-listing-spec =
     tie.close
     (tie.spec
     slice-aggregate-start
     slice-aggregate-start-2
     start-requires
-    slice-aggregate-write-all
-    write-all-requires
     slice-aggregate-put-lines
     slice-aggregate-put-lines-2
     put-lines-requires
-    slice-aggregate-write-all-2
-    write-all-requires-2
     returns)
