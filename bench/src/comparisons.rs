@@ -23,7 +23,7 @@ pub fn in_list(tree: &SyntaxTree, schema: &str, item: &str) -> Compared {
     };
     Compared {
         rust: sum(&names, &resolve) + sum(&valued, &get),
-        port: homes(tree)
+        port: last_schemas(tree)
             + sum(&names, &place)
             + sum(&owners, &of_its_kind)
             + first_of(tree, asked),
@@ -63,12 +63,26 @@ fn of_its_kind(tree: &SyntaxTree, named: Named) -> usize {
         .unwrap_or(place)
 }
 
-/// namespace::home: every schema's name, for each schema in each of gathering's three passes
-fn homes(tree: &SyntaxTree) -> usize {
-    3 * tree.schemas.len() * tree.schemas.len()
+/// declarations::last_schema: every schema's name, for each schema in each of gathering's passes that has a name to resolve there
+fn last_schemas(tree: &SyntaxTree) -> usize {
+    tree.schemas.len() * tree.schemas.iter().map(passes).sum::<usize>()
 }
 
-/// namespace::first_of: the schemas' names up to its own, then those of its kind
+/// How many of the passes, over rules, constraints and names in SUBTYPE OF, have a name to resolve in the schema
+fn passes(schema: &Schema) -> usize {
+    let entities = || schema.entities.iter();
+    let given = [
+        entities().any(|it| rule(it).is_some()),
+        schema
+            .subtype_constraints
+            .iter()
+            .any(|it| it.expr.is_some()),
+        entities().any(|it| above(it).next().is_some()),
+    ];
+    given.iter().filter(|it| **it).count()
+}
+
+/// declarations::first_of: the schemas' names up to its own, then those of its kind
 fn first_of(tree: &SyntaxTree, named: Named) -> usize {
     named.0 + 1 + of_its_kind(tree, named)
 }

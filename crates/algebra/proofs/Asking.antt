@@ -1,8 +1,7 @@
 -- The questions put together: what was read, what it is worth, what is handed out.
-use Prim.Native.Nat.{ℕ, _+_, _*_, _≤_, _<_, Ordering}
+use Prim.Native.Nat.{ℕ, _*_, _≤_, _<_, Ordering}
 use mathlib.Core.Path.{_≡_, refl, sym, ap, _∙_}
 use mathlib.Core.List.{List, [], _∷_}
-use native.Mathlib.Omega.{arith}
 use lib.ListN.{length, drop}
 use borrow.Author.Tests.{le-leb, lt-leb}
 use Rattle.refusal.specs.MeaningAnswer.{Answer, done, refused, _>>=_}
@@ -20,24 +19,23 @@ use Rattle.instantiables.specs.MirrorRows.{listsAt, sum, AllSets}
 use Rattle.instantiables.specs.declared.Listed.{Listed}
 use Rattle.instantiables.specs.declared.Listed.the-variants as listed
 use Rattle.instantiables.specs.Told.{toldListed}
-use Rattle.algebra.specs.declared.Read.{Read}
-use Rattle.algebra.specs.declared.Read.the-variants.{Whole, Wrong}
+use Rattle.operands.specs.MeaningOperands.{readPart, read, both}
+use Rattle.operands.specs.MeaningResults.{one, fitting}
+use Rattle.operands.specs.MirrorOperands.{judged, countsOf, partsIn, Operable}
+use Rattle.operands.specs.MirrorResults.{Valued, Handed}
+use Rattle.operands.specs.declared.Read.{Read}
+use Rattle.operands.specs.declared.Read.the-variants.{Whole, Wrong}
+use Rattle.operands.specs.declared.Operand as code-operand
+use Rattle.operands.specs.Told.{toldOperand}
+use Rattle.operands.specs.Promises.{Answers}
+use Rattle.operands.proofs.Cuts.{clash}
+use Rattle.operands.proofs.Taking.{taken-says, taken-room, taken-sets, wrong-says, operand-says, operand-operable, operand-wrong, part-room, part-read, part-refused}
+use Rattle.operands.proofs.Handing.{refused-answers, hand-answers}
+use Rattle.operators.specs.MeaningOperators.{Operator, Several, valueOf, valueOfAll}
+use Rattle.algebra.specs.MeaningQuestions.{inOrder, askNew, askSingle, askCompare, askTwo, askSeveral}
+use Rattle.algebra.specs.MirrorOrder.{judgedBoth}
 use Rattle.algebra.specs.declared.Compared.the-variants as compared
-use Rattle.algebra.specs.MeaningOperands.{readPart}
-use Rattle.algebra.specs.MeaningQuestions.{Operator, Several, inOrder, both, fitting, written, one, read, valueOf, valueOfAll, askNew, askSingle, askCompare, askTwo, askSeveral}
-use Rattle.algebra.specs.MirrorOperands.{judged, judgedBoth, countsOf, partsIn, Operable}
-use Rattle.algebra.specs.MirrorResults.{Valued, Handed}
-use Rattle.algebra.specs.Told.{toldCompared, toldOperand}
-use Rattle.algebra.specs.declared.Operand as code-operand
-use Rattle.algebra.specs.Promises.{Answers}
-use Rattle.algebra.proofs.Cuts.{clash}
-use Rattle.algebra.proofs.Taking.{lone, taken-whole, taken-says, taken-room, taken-sets, wrong-says, part-says, part-wrong, operand-says, operand-operable, operand-wrong}
-use Rattle.algebra.proofs.Handing.{hand-answers}
-
--- a refusal leaves the buffer
-pub refused-answers : (o : Answer (List Part)) (out : List ℕ) (w : Refusal) → o ≡ refused (w .number) (w .place) → Answers o out (listed.Refused w) out
-unfolding written
-refused-answers o out w e = rw e (record { says = refl; buffer = refl })
+use Rattle.algebra.specs.Told.{toldCompared}
 
 -- ---- 15, left operand first
 module _ (r s : Read) where
@@ -125,17 +123,6 @@ module _ (index : ℕ) (out : List ℕ) where
 pub ruleset asking-part = (new-refused, new-made, single-over, single-made)
 
 -- ---- compare
--- a part operand is one row
-module _ (l : List ℕ) (r : Read) (w : r ≡ judged (1 ∷ []) l) where
-  pub part-room : r ≡ Whole → 0 + 13 ≤ length l
-  part-room e = omega (arith, lone 1 l (taken-whole (1 ∷ []) l (sym w ∙ e)) .whole)
-
-  pub part-read : r ≡ Whole → readPart l ≡ done (partAt l ∷ [])
-  part-read e = part-says l (sym w ∙ e)
-
-  pub part-refused : (k : ℕ) → r ≡ Wrong k → readPart l ≡ refused 15 k
-  part-refused k e = part-wrong l k (sym w ∙ e)
-
 module _ (left right : List ℕ) (r s : Read) (w : r ≡ judged (1 ∷ []) left) (x : s ≡ judged (1 ∷ []) right) (v : Verdict) (o : v ≡ judgedBoth r s) where
   pub compare-refused : (why : Refusal) → v ≡ verdict.Refused why → toldCompared (compared.Refused why) ≡ askCompare left right
   unfolding askCompare

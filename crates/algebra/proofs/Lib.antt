@@ -1,11 +1,3 @@
-pub mod Shapes
-pub mod Cuts
-pub mod Counting
-pub mod Judging
-pub mod RowParts
-pub mod Taking
+pub mod Asking
 pub mod Once
 pub mod Proved
-pub mod Handing
-pub mod Valuing
-pub mod Asking

@@ -1,7 +1,5 @@
-pub mod MeaningOperands
 pub mod MeaningQuestions
 pub mod Told
-pub mod MirrorOperands
-pub mod MirrorResults
+pub mod MirrorOrder
 pub mod Promises
 pub mod Claims

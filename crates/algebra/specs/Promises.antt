@@ -1,20 +1,15 @@
--- What each question on rows promises: its answer, and what the result buffer holds then.
+-- What each question on rows promises.
 use mathlib.Core.Path.{_≡_}
 use mathlib.Core.List.{List}
 use Prim.Native.Nat.{ℕ}
 use lib.ListN.{length}
-use Rattle.refusal.specs.MeaningAnswer.{Answer, mapped}
-use Rattle.complex_entity.specs.MeaningParts.{Part}
 use Rattle.instantiables.specs.declared.Listed.{Listed}
-use Rattle.instantiables.specs.Told.{toldListed}
-use Rattle.algebra.specs.MeaningQuestions.{written, askNew, askSingle, askCompare, Operand, Operator, askTwo, Several, askSeveral}
+use Rattle.operands.specs.MeaningOperands.{Operand}
+use Rattle.operands.specs.Promises.{Answers}
+use Rattle.algebra.specs.MeaningQuestions.{askNew, askSingle, askCompare, askTwo, askSeveral}
+use Rattle.operators.specs.MeaningOperators.{Operator, Several}
 use Rattle.algebra.specs.Told.{toldCompared}
 use Rattle.algebra.specs.declared.Compared.{Compared}
-
--- the answer is how many rows the result has, or its refusal; the buffer holds the rows, or what it held
-pub record Answers (o : Answer (List Part)) (out : List ℕ) (r : Listed) (out' : List ℕ) : Type 0 where
-  pub says : toldListed r ≡ mapped length o
-  pub buffer : out' ≡ written o out
 
 abbrev pub Promise-new : List ℕ → List ℕ → Listed → List ℕ → Type 0
 Promise-new indices out r out' = Answers (askNew indices (length out)) out r out'

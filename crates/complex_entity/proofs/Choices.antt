@@ -1,11 +1,10 @@
 -- ONEOF, AND and ANDOR: what is in them, and that ANDOR factor by factor is ANDOR over every nonempty choice.
 use mathlib.Core.Path.{_≡_, refl, sym, _∙_, ap}
-use mathlib.Core.Logic.{_⊎_, inl, inr, _↔_}
+use mathlib.Core.Logic.{inl, inr}
 use mathlib.Core.List.{List, [], _∷_, _++_, map, flatten}
-use Prim.Native.Nat.{ℕ}
 use Rattle.complex_entity.specs.MeaningSets.{_∈_, here, there, Rising, empty}
 use Rattle.complex_entity.specs.MeaningParts.{Part, order, join}
-use Rattle.complex_entity.specs.MeaningLists.{add, joins, bitand, oneof, andFrom, and, choices, andor}
+use Rattle.complex_entity.specs.MeaningLists.{joins, bitand, oneof, andFrom, and, choices, andor}
 use Rattle.complex_entity.specs.MirrorLists.{grown, andorFrom}
 use Rattle.complex_entity.specs.Claims.{One, this, later, Every, last, with-rest, Some, only, without, with-it}
 use Rattle.complex_entity.proofs.Sets.{not-in-nil, tidy-old, tidy-new, tidy-rising, ext}

@@ -1,8 +1,8 @@
 -- What `-` and `/` keep, and what their tests say.
-use mathlib.Core.Path.{_≡_, refl, sym, _∙_}
-use mathlib.Core.Logic.{_⊎_, inl, inr, _↔_}
+use mathlib.Core.Path.{_≡_, refl, sym}
+use mathlib.Core.Logic.{_⊎_, inl, inr}
 use mathlib.Core.List.{List, [], _∷_}
-use mathlib.Core.Bool.{Bool, true, false, not, _&&_, _||_}
+use mathlib.Core.Bool.{Bool, true, false, not, _||_}
 use Prim.Native.Nat.{ℕ, Ordering}
 use lib.Dec.{T, isEq, eqb, eqb→eq, eqb-refl, T-not, not-T}
 use mir.Facts.{and-yes, yes-and}

@@ -1,13 +1,13 @@
 -- The limits: a list that is held has at most 128 parts of at most 12 names; what passes them on the way passes them at the end.
-use mathlib.Core.Path.{_≡_, refl, sym, _∙_, ap}
+use mathlib.Core.Path.{_≡_, refl, sym}
 use mathlib.Core.List.{List, [], _∷_, _++_}
-use mathlib.Core.Bool.{Bool, true, false, _&&_}
+use mathlib.Core.Bool.{Bool, true, false}
 use Prim.Native.Nat.{ℕ, _≤_, _<_}
 use native.Mathlib.Omega.{arith}
 use lib.ListN.{length}
 use lib.Dec.{T, leb, leb→le, le→leb}
 use mir.Facts.{and-yes, yes-and}
-use Rattle.refusal.specs.MeaningAnswer.{Answer, done, refused, orElse, mapped}
+use Rattle.refusal.specs.MeaningAnswer.{Answer, done, refused, orElse}
 use Rattle.complex_entity.specs.MeaningSets.{_∈_, here, there, Rising}
 use Rattle.complex_entity.specs.MeaningParts.{Part, order, narrow}
 use Rattle.complex_entity.specs.MeaningLists.{add, held, fits, allNarrow}

@@ -1,17 +1,17 @@
 -- What `new` makes: the names given, in order, each once; and it takes every part.
-use mathlib.Core.Path.{_≡_, refl, sym, _∙_, ap}
-use mathlib.Core.Logic.{_⊎_, inl, inr, _↔_}
+use mathlib.Core.Path.{_≡_, refl, sym, _∙_}
+use mathlib.Core.Logic.{_↔_}
 use mathlib.Core.List.{List, [], _∷_}
 use mathlib.Core.Bool.{Bool, true, false, cond, _&&_}
 use mathlib.Core.Option.{Option, none, some}
-use Prim.Native.Nat.{ℕ, zero, suc, _≤_, _<_, compare}
+use Prim.Native.Nat.{ℕ, _≤_, _<_, compare}
 use native.Mathlib.Omega.{arith}
 use native.Mathlib.Decide.{decLt}
 use lib.ListN.{length}
 use lib.Dec.{T, leb, eqb, leb→le, le→leb, eqb→eq, eqb-refl}
 use mir.Facts.{and-yes, yes-and}
-use Rattle.refusal.specs.MeaningAnswer.{Answer, done, refused, orElse}
-use Rattle.complex_entity.specs.MeaningSets.{_∈_, here, there, Below, Rising, empty, next}
+use Rattle.refusal.specs.MeaningAnswer.{done, orElse}
+use Rattle.complex_entity.specs.MeaningSets.{_∈_, here, there, Rising, empty, next}
 use Rattle.complex_entity.specs.MeaningParts.{Part, narrow, after, dedup, moved, badAfter, unlessBad, newOf, last-index}
 use Rattle.complex_entity.proofs.Orders.{nat-order, cmp→lt, lt→cmp}
 use Rattle.complex_entity.proofs.Limits.{orElse-yes}

@@ -1,11 +1,11 @@
 -- What is in the result of each operator on lists of parts.
-use mathlib.Core.Path.{_≡_, refl, sym, _∙_, ap}
-use mathlib.Core.Logic.{_⊎_, inl, inr, _↔_}
-use mathlib.Core.List.{List, [], _∷_, _++_, append-assoc, append-nil, map, flatMap, flatten}
+use mathlib.Core.Path.{_≡_, refl, _∙_, ap}
+use mathlib.Core.Logic.{_⊎_, inl, inr}
+use mathlib.Core.List.{List, [], _∷_, _++_, append-nil, map, flatMap, flatten}
 use Prim.Native.Nat.{ℕ, compare}
 use Rattle.complex_entity.specs.MeaningSets.{_∈_, here, there, Rising, insert, tidy}
 use Rattle.complex_entity.specs.MeaningParts.{Part, order, join}
-use Rattle.complex_entity.specs.MeaningLists.{add, joins, bitand}
+use Rattle.complex_entity.specs.MeaningLists.{add, joins}
 use Rattle.complex_entity.proofs.Sets.{not-in-nil, insert-old, insert-new, insert-rising, tidy-old, tidy-new, tidy-rising, tidy-same, tidy-is, ext}
 use Rattle.complex_entity.proofs.Orders.{nat-order, part-order}
 
@@ -118,10 +118,6 @@ join-assoc p q r = ext nat-order (join-rising p (join q r)) (join-rising (join p
 
 pub data Joined (L K : List Part) (r : Part) : Type 0 where
   joined : {p q : Part} → p ∈ L → q ∈ K → r ≡ join p q → Joined L K r
-
-pub joins-cons : (p : Part) (L K : List Part) → joins (p ∷ L) K ≡ map (join p) K ++ joins L K
-unfolding flatMap
-joins-cons p L K = refl
 
 pub joins-old : (L K : List Part) {r : Part} → r ∈ joins L K → Joined L K r
 unfolding flatMap

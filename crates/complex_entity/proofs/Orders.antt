@@ -96,9 +96,6 @@ lex-trans (x ∷ xs) (y ∷ ys) (z ∷ zs) h k = go (lex-cases x y xs ys h) (lex
     go (inr a) (inl b) f = lex-head x z xs zs (rw (a .0) b)
     go (inr a) (inr b) f = lex-tail x z xs zs (a .0 ∙ b .0) (f (a .1) (b .1))
 
-pub lex-order : Order lex
-lex-order = record { view = lex-view; irrefl = lex-irrefl; trans = lex-trans }
-
 -- ---- the order of parts
 order-view : (p q : Part) → View order p q (order p q)
 order-view p q = go (lex-view (length p ∷ p) (length q ∷ q))

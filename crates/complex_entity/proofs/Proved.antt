@@ -1,16 +1,16 @@
 -- Every claim holds.
-use mathlib.Core.Path.{_≡_, refl, sym, _∙_}
-use mathlib.Core.Logic.{_⊎_, inl, inr, _↔_}
+use mathlib.Core.Path.{_≡_}
+use mathlib.Core.Logic.{inl, inr}
 use mathlib.Core.List.{List, [], _∷_, map}
 use mathlib.Core.Bool.{Bool, true, false}
-use Prim.Native.Nat.{ℕ, _≤_, compare}
+use Prim.Native.Nat.{ℕ, _≤_}
 use native.Mathlib.Omega.{arith}
 use lib.ListN.{length}
 use lib.Dec.{leb}
-use Rattle.refusal.specs.MeaningAnswer.{Answer, done, refused, orElse, _>>=_}
+use Rattle.refusal.specs.MeaningAnswer.{Answer, done, orElse, _>>=_}
 use Rattle.complex_entity.specs.MeaningSets.{_∈_}
 use Rattle.complex_entity.specs.MeaningParts.{Part, join}
-use Rattle.complex_entity.specs.MeaningLists.{bitand, joins, held, fits, prefixes, andFrom, and, andOf, andor, andorOf, choices}
+use Rattle.complex_entity.specs.MeaningLists.{bitand, joins, held, prefixes, andFrom, and, andOf, andor, andorOf, choices}
 use Rattle.complex_entity.specs.Claims
 use Rattle.complex_entity.proofs.Sets.{tidy-old, tidy-new, tidy-rising, ext}
 use Rattle.complex_entity.proofs.Orders.{part-order}

@@ -10,12 +10,14 @@ use lib.Seq.{getD-take, getD-drop, getD-append-add, take-take, take-at, paste, p
 use mir.Syntax.{w16}
 use mir.Val.{Fits}
 use borrow.Author.Needs.{fits-under}
+use Rattle.refusal.specs.MeaningAnswer.{Answer, done, refused, orElse}
 use Rattle.complex_entity.specs.declared.PartialComplexEntity.{PartialComplexEntity}
-use Rattle.complex_entity.specs.MeaningParts.{Part}
+use Rattle.complex_entity.specs.declared.Made.{Made}
+use Rattle.complex_entity.specs.MeaningParts.{Part, narrow}
 use Rattle.complex_entity.specs.MeaningRows.{rowOf}
-use Rattle.complex_entity.specs.MirrorParts.{namesOf, partOf, partAt}
+use Rattle.complex_entity.specs.MirrorParts.{namesOf, partOf, madeOf, narrowOf, partAt}
 use Rattle.complex_entity.proofs.Filling.{Filling, fill-start, fill-next, fill-done}
-use Rattle.complex_entity.proofs.Names.{Counted, counted, names-few, part-is, part-long, rest-cons, front-at}
+use Rattle.complex_entity.proofs.Names.{Counted, counted, names-few, names-of-part, part-is, part-long, rest-cons, front-at}
 
 pub part-at-few : (l : List ℕ) → length (partAt l) ≤ 12
 part-at-few l = rw (length-take, length-take) (omega arith)
@@ -152,3 +154,47 @@ module _ (d : List ℕ) (at v : ℕ) (p : PartialComplexEntity) (n i : ℕ) (row
   write-long = f .long ∙ length-set d at v
 
 pub ruleset writing = (write-count, write-start, write-name, write-zero, write-fits, write-done, write-long)
+
+-- ---- a part with zeros after its names: its numbers are the row's
+
+pub record Putting (d : List ℕ) (at : ℕ) (p : PartialComplexEntity) (i : ℕ) (rows : List ℕ) : Type 0 where
+  pub padded : p ≡ partOf (namesOf p)
+  pub writes : Writing d at p (p .n) i rows
+
+module _ (p : PartialComplexEntity) (l : length (p .names) ≡ 12) (e : p ≡ partOf (namesOf p)) where
+  padded-size : p .n ≡ length (namesOf p)
+  padded-size = ap (λ (q : PartialComplexEntity). q .n) e
+
+  pub put-count : Fits w16 (p .n)
+  put-count = write-count p (p .n) padded-size l
+
+  pub put-start : (d : List ℕ) (at : ℕ) → at + 13 ≤ length d → Putting (set d at (p .n)) at p 0 (set d at (p .n))
+  put-start d at h = record { padded = e; writes = write-start d at p (p .n) h l padded-size }
+
+module _ (d : List ℕ) (at : ℕ) (p : PartialComplexEntity) (i : ℕ) (rows : List ℕ) (f : Putting d at p i rows) where
+  pub put-next : i < 12 → Putting d at p (i + 1) (set rows (at + 1 + i) (getD (p .names) i 0))
+  unfolding rowOf
+  put-next h = record { padded = f .padded; writes = write-one d at p (p .n) i rows (f .writes) _ h (ap (λ (q : PartialComplexEntity). getD (q .names) i 0) (sym (f .padded))) }
+
+  pub put-fits : i < 12 → at + 1 + i < length rows
+  put-fits h = write-fits d at p (p .n) i rows (f .writes) h
+
+module _ (d : List ℕ) (at v : ℕ) (p : PartialComplexEntity) (i : ℕ) (rows : List ℕ) (f : Putting (set d at v) at p i rows) where
+  pub put-done : 12 ≤ i → rows ≡ paste d at (rowOf (namesOf p)) 13
+  put-done h = write-done d at v p (p .n) i rows (f .writes) h
+
+  pub put-long : length rows ≡ length d
+  put-long = write-long d at v p (p .n) i rows (f .writes)
+
+pub ruleset putting = (put-count, put-start, put-next, put-fits, put-done, put-long)
+
+-- what is read or made has zeros after its names
+pub padded-part : (p : Part) (q : PartialComplexEntity) → q ≡ partOf p → q ≡ partOf (namesOf q)
+padded-part p q e = rw (e, names-of-part p) refl
+
+pub padded-made : (p : Part) (m : Made) → m ≡ narrowOf p → m .part ≡ partOf (namesOf (m .part))
+padded-made p m e = rw e (go (orElse 11 (narrow p) (done p)))
+  where
+    go : (o : Answer Part) → madeOf o .part ≡ partOf (namesOf (madeOf o .part))
+    go (done q) = padded-part q (partOf q) refl
+    go (refused n k) = refl

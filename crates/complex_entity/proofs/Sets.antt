@@ -1,8 +1,8 @@
 -- The laws of sets as lists, over any order: what is in them, that they rise, and that the members alone decide.
 use mathlib.Core.Path.{_≡_, refl, sym, _∙_}
-use mathlib.Core.Logic.{_⊎_, inl, inr, _↔_}
-use mathlib.Core.List.{List, [], _∷_, _++_, map, flatMap, flatten}
-use Prim.Native.Nat.{ℕ, suc, _≤_, zero-le, suc-le-suc, Ordering}
+use mathlib.Core.Logic.{_⊎_, inl, inr}
+use mathlib.Core.List.{List, [], _∷_}
+use Prim.Native.Nat.{_≤_, zero-le, suc-le-suc, Ordering}
 use native.Mathlib.Omega.{arith}
 use lib.ListN.{length}
 use Rattle.complex_entity.specs.MeaningSets.{_∈_, here, there, Lt, View, less, same, more, Order, Below, Rising, empty, next, put, insert, tidy}
@@ -45,9 +45,6 @@ module _ {A : Type 0} {cmp : A → A → Ordering} (O : Order cmp) where
   insert-new a [] (inl e) = here e
   insert-new a [] (inr m) = there m
   insert-new a (b ∷ l) m = put-new cmp a b l (insert cmp a l) (O .view a b) (insert-new a l) m
-
-  pub insert-mem : (a : A) (l : List A) (q : A) → (q ∈ insert cmp a l) ↔ ((q ≡ a) ⊎ (q ∈ l))
-  insert-mem a l q = (insert-old a l, insert-new a l)
 
   pub below-cons : {a b : A} {l : List A} → Lt cmp a b → Below cmp b l → Below cmp a (b ∷ l)
   below-cons h B q (here e) = rw e h

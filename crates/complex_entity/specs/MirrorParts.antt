@@ -3,10 +3,9 @@ use mathlib.Core.List.{List, [], _∷_, _++_}
 use Prim.Native.Nat.{ℕ, _-_, compare, Ordering, Ordering·lt, Ordering·eq, Ordering·gt}
 use lib.ListN.{length, getD, take, drop, replicate}
 use Rattle.refusal.specs.MeaningAnswer.{Answer, done, refused, orElse}
-use Rattle.complex_entity.specs.MeaningParts.{Part, most-names, narrow, dedup}
+use Rattle.complex_entity.specs.MeaningParts.{Part, most-names, narrow}
 use Rattle.complex_entity.specs.declared.PartialComplexEntity.{PartialComplexEntity}
 use Rattle.complex_entity.specs.declared.Made.{Made}
-use Rattle.complex_entity.specs.declared.Verdict.{Verdict}
 use Rattle.complex_entity.specs.declared.Verdict.the-variants.{Done, Refused}
 use Rattle.complex_entity.specs.declared.Spotted.{Spotted}
 use Rattle.complex_entity.specs.declared.Spotted.the-variants.{At, Nowhere}

@@ -1,7 +1,5 @@
 -- What the code's answers say, in the paper's words.
-use mathlib.Core.List.{List, []}
-use Prim.Native.Nat.{ℕ, Ordering, Ordering·lt, Ordering·eq, Ordering·gt}
-use Rattle.refusal.specs.MeaningAnswer.{Answer, done, refused}
+use Prim.Native.Nat.{Ordering, Ordering·lt, Ordering·eq, Ordering·gt}
 use Rattle.complex_entity.specs.declared.Order.{Order}
 use Rattle.complex_entity.specs.declared.Order.the-variants.{Less, Same, More}
 

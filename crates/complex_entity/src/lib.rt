@@ -2,7 +2,7 @@
 //
 // Parts: a partial complex entity is a set of at most 12 names, each an index, in rising order.
 ghost use mathlib.Core.Path.{_≡_};
-ghost use mathlib.Core.List.{[], _∷_, _++_};
+ghost use mathlib.Core.List.{[], _∷_};
 ghost use Prim.Native.Nat.{_+_, _≤_, min};
 ghost use lib.ListN.{length, take, drop};
 ghost use lib.Seq.{paste};
@@ -314,6 +314,19 @@ impl PartialComplexEntity {
                 rows[at + 1 + i] = 0;
                 i += 1;
             }
+        }
+    }
+
+    // The same where zeros stand after the part's names: its numbers go as they are.
+    pub fn put(self, rows: &mut [u16], at: usize)
+        requires { ⌜ (at + 13 ≤ length (now rows)) × (self ≡ partOf (namesOf self)) ⌝ }
+        ensures { λ _. ⌜ now (rows .exit) ≡ paste (now (rows .entry)) at (rowOf (namesOf self)) 13 ⌝ }
+    {
+        rows[at] = self.n as u16;
+        let mut i = 0;
+        while i < Self::LIMIT {
+            rows[at + 1 + i] = self.names[i];
+            i += 1;
         }
     }
 

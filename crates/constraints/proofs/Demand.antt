@@ -4,9 +4,9 @@ use mathlib.Core.List.{List, [], _∷_}
 use mathlib.Core.Bool.{Bool, true, false, cond}
 use mathlib.Core.Option.{Option, none, some}
 use Prim.Native.Nat.{ℕ}
-use Rattle.refusal.specs.MeaningAnswer.{Answer, done, refused, mapped, _>>=_}
-use Rattle.sheet.specs.MeaningReading.{Reading}
-use Rattle.sheet.proofs.Choosing.{clash}
+use Rattle.refusal.specs.MeaningAnswer.{Answer, done, refused, _>>=_}
+use Rattle.grammar.specs.MeaningReading.{Reading}
+use Rattle.grammar.proofs.Choosing.{clash}
 use Rattle.schemas.specs.MeaningSchemas.{Schema}
 use Rattle.scope.specs.MeaningScope.{Path, samePath}
 use Rattle.complex_entity.specs.MeaningSets.{_∈_, here, there}
@@ -15,11 +15,11 @@ use Rattle.expression.specs.MeaningExpression.{Expr, eval}
 use Rattle.expression.specs.MeaningNumbers.{numberOf, setAt}
 use Rattle.expression.proofs.Proved as expressions
 use Rattle.expression.proofs.Places.{set-below}
-use Rattle.namespace.specs.MeaningNamespace.{answered}
-use Rattle.namespace.specs.MeaningOrder.{schemasIn}
+use Rattle.declarations.specs.MeaningNamespace.{schemasIn, answered}
 use Rattle.merging.specs.MeaningMerging.{Combined, find}
 use Rattle.merging.specs.MeaningNumbering.{mapExpr}
-use Rattle.gathering.specs.MeaningCombined.{supertypes, combined, numberFor, numberedExpr, listOf}
+use Rattle.records.specs.MeaningResolving.{numberFor}
+use Rattle.gathering.specs.MeaningCombined.{supertypes, combined, numberedExpr, listOf}
 use Rattle.gathering.specs.Claims.{IsDeclared, Every}
 use Rattle.gathering.proofs.Proved.{all-declared}
 use Rattle.constraints.specs.MeaningQuestions.{askNumber, askRow}
@@ -36,7 +36,7 @@ found-in {N} same p (c ∷ g) e q = by (same (c .owner) p) q (λ k. found-in sam
     by false k go = let i = go k in (i .0, there (i .1), i .2)
 
 module _ (rd : Reading) (xs : List Schema) (p : Path) (e : Expr Path) (c : combined rd xs p ≡ done e) where
-  pub every-declared : Every (IsDeclared rd xs) e
+  every-declared : Every (IsDeclared rd xs) e
   unfolding combined answered
   every-declared = by (supertypes rd xs) refl c
     where

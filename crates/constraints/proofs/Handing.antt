@@ -1,34 +1,34 @@
 -- What is made of a list that stands behind the records: it is handed out, a set of it, or a set's number.
-use mathlib.Core.Path.{_≡_, refl, sym, ap, _∙_}
+use mathlib.Core.Path.{_≡_, refl, ap, _∙_}
 use mathlib.Core.List.{List, [], _∷_}
-use Prim.Native.Nat.{ℕ, _+_, _-_, _*_, _≤_}
+use Prim.Native.Nat.{ℕ, _-_, _*_, _≤_}
 use native.Mathlib.Omega.{arith}
 use lib.ListN.{length, take, drop, length-drop}
 use lib.Seq.{take-all}
-use Rattle.refusal.specs.MeaningAnswer.{Answer, done, refused, mapped, _>>=_}
+use Rattle.refusal.specs.MeaningAnswer.{Answer, done, refused}
 use Rattle.refusal.specs.declared.Refusal.{Refusal}
-use Rattle.sheet.proofs.Choosing.{clash}
-use Rattle.scope.specs.declared.Verdict.the-variants as verdict
+use Rattle.grammar.proofs.Choosing.{clash}
+use Rattle.query.specs.declared.Verdict.the-variants as verdict
 use Rattle.complex_entity.specs.MeaningParts.{Part}
 use Rattle.complex_entity.specs.MirrorParts.{namesOf, partOf, partAt, madeOf}
 use Rattle.complex_entity.specs.declared.PartialComplexEntity.{PartialComplexEntity}
 use Rattle.complex_entity.specs.declared.Made.{Made}
 use Rattle.complex_entity.specs.declared.Verdict.the-variants as making
 use Rattle.complex_entity.proofs.Names.{names-of-part}
-use Rattle.instantiables.specs.MirrorRows.{partsAt, Stands}
+use Rattle.rows.specs.MirrorRows.{partsAt, Stands}
 use Rattle.instantiables.specs.Told.{toldListed}
 use Rattle.instantiables.specs.declared.Listed.{Listed}
 use Rattle.instantiables.specs.declared.Listed.the-variants as listed
-use Rattle.instantiables.proofs.Flats.{parts-length}
-use Rattle.algebra.specs.MeaningOperands.{readPart}
-use Rattle.algebra.specs.MeaningQuestions.{part, fitting, one}
-use Rattle.algebra.specs.MirrorOperands.{judged}
-use Rattle.algebra.specs.MirrorResults.{Handed}
-use Rattle.algebra.specs.Promises.{Answers}
-use Rattle.algebra.specs.declared.Read.{Read}
-use Rattle.algebra.specs.declared.Read.the-variants.{Whole, Wrong}
-use Rattle.algebra.proofs.Handing.{hand-answers}
-use Rattle.algebra.proofs.Asking.{refused-answers, part-room, part-read, part-refused}
+use Rattle.rows.proofs.Flats.{parts-length}
+use Rattle.operands.specs.MeaningOperands.{part}
+use Rattle.operands.specs.MeaningResults.{fitting}
+use Rattle.operands.specs.MirrorOperands.{judged}
+use Rattle.operands.specs.MirrorResults.{Handed}
+use Rattle.operands.specs.Promises.{Answers}
+use Rattle.operands.specs.declared.Read.{Read}
+use Rattle.operands.specs.declared.Read.the-variants.{Whole, Wrong}
+use Rattle.operands.proofs.Handing.{hand-answers, refused-answers}
+use Rattle.operands.proofs.Taking.{part-room, part-read, part-refused}
 use Rattle.expression.specs.MeaningNumbers.{numberOf, setAt}
 use Rattle.expression.specs.Told.{toldNumber}
 use Rattle.expression.specs.declared.Value.{Value}
@@ -37,8 +37,8 @@ use Rattle.expression.specs.declared.Valued.the-variants.{Is, Refused}
 use Rattle.expression.specs.declared.Numbered.{Numbered}
 use Rattle.expression.specs.declared.Numbered.the-variants as numbered
 use Rattle.namespace.specs.Told.{toldVerdict}
-use Rattle.constraints.specs.MirrorStanding.{listAt, StandsIf, listInto, setInto, rowInto, placeIn, RowRead}
-use Rattle.constraints.specs.declared.AskedRow.{AskedRow}
+use Rattle.supertypes.specs.MirrorStanding.{listAt, StandsIf}
+use Rattle.constraints.specs.MirrorAnswers.{listInto, setInto, rowInto, placeIn, RowRead}
 
 -- ---- a list that was refused
 

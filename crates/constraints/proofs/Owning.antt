@@ -1,4 +1,4 @@
--- The questions over the records of gathering: who owns one, the lists, the owners in order.
+-- The questions over the records of gathering: who owns one, and the owners in order.
 use mathlib.Core.Path.{_≡_, refl, sym, ap, _∙_}
 use mathlib.Core.List.{List, [], _∷_, _++_, map}
 use mathlib.Core.Bool.{Bool, true, false, cond}
@@ -7,24 +7,25 @@ use Prim.Native.Nat.{ℕ, zero, suc}
 use lib.Dec.{eqb}
 use lib.ListN.{getElem?}
 use Rattle.refusal.specs.MeaningAnswer.{Answer, done, refused, mapped, _>>=_}
-use Rattle.sheet.specs.MeaningReading.{Reading}
-use Rattle.sheet.proofs.Choosing.{clash}
+use Rattle.grammar.specs.MeaningReading.{Reading}
+use Rattle.grammar.proofs.Choosing.{clash}
 use Rattle.schemas.specs.MeaningSchemas.{Schema}
 use Rattle.scope.specs.MeaningScope.{Path, samePath}
-use Rattle.complex_entity.specs.MeaningParts.{Part}
-use Rattle.expression.specs.MeaningExpression.{Expr, Terms, end, eval, isInSome}
+use Rattle.expression.specs.MeaningExpression.{Expr, isInSome}
 use Rattle.expression.specs.MeaningNumbers.{or17}
-use Rattle.namespace.specs.MeaningNamespace.{Declaration, answered, declarationFor}
+use Rattle.declarations.specs.MeaningNamespace.{Declaration, answered, declarationFor}
 use Rattle.merging.specs.MeaningMerging.{Combined, Pair, find}
 use Rattle.merging.specs.MeaningItems.{exprsOf, subsOf, allFactors, fresh, combine, combinedOf}
 use Rattle.merging.specs.MeaningNumbering.{mapExpr}
-use Rattle.merging.specs.Claims.{firsts}
+use Rattle.merging.specs.MeaningFirsts.{firsts}
 use Rattle.merging.specs.MirrorStream.{paired, isFound}
-use Rattle.gathering.specs.MeaningCombined.{supertypes, combined, numberFor, numberedExpr, listOf}
+use Rattle.records.specs.MeaningResolving.{numberFor}
+use Rattle.gathering.specs.MeaningCombined.{supertypes, combined, numberedExpr}
 use Rattle.gathering.specs.MirrorGathering.{streams}
-use Rattle.gathering.proofs.Numbering.{numbered-expr, no-expr, numbered-owners}
+use Rattle.gathering.proofs.Numbering.{numbered-expr, no-expr}
+use Rattle.supertypes.proofs.Owning.{Alike, both-done, both-refused, alike, owners-both}
 use Rattle.constraints.specs.MeaningQuestions.{isSome, isSupertype, askSupertype}
-use Rattle.constraints.specs.MirrorStanding.{Both, ownedIn, ownerIn, listBy, listIn}
+use Rattle.supertypes.specs.MirrorStanding.{Both, ownedIn, ownerIn}
 
 -- ---- some record has the owner exactly where it has an expression
 
@@ -92,65 +93,32 @@ found-as f (some d) (some c) e = refl
 found-as f none (some c) e = clash (cc)
 found-as f (some d) none e = clash (cc)
 
+-- ---- the owners in order
+
+at-mapped : {A B : Type 0} (f : A → B) (g : List A) (k : ℕ) → mapped f (or17 (getElem? g k)) ≡ or17 (getElem? (map f g) k)
+at-mapped f [] zero = refl
+at-mapped f [] (suc k) = refl
+at-mapped f (x ∷ g) zero = refl
+at-mapped f (x ∷ g) (suc k) = at-mapped f g k
+
 module _ (rd : Reading) (xs : List Schema) where
-  -- supertypes and records are refused alike
-  pub data Alike : Answer (List (Combined Path)) → Answer Both → Type 0 where
-    both-done : {g : List (Combined Path)} {b : Both} → supertypes rd xs ≡ done g → streams rd xs ≡ done b
-        → map (λ (c : Combined Path). numberFor rd xs (c .owner)) g ≡ firsts eqb [] (map (λ (c : Combined ℕ). c .owner) (b .0) ++ map (λ (x : Pair ℕ). x .super) (b .1)) → Alike (done g) (done b)
-    both-refused : {n p : ℕ} → Alike (refused n p) (refused n p)
-
-  pub alike : Alike (supertypes rd xs) (streams rd xs)
-  alike = by (supertypes rd xs) (streams rd xs) refl refl (numbered-owners rd xs)
-    where
-      by : (a : Answer (List (Combined Path))) (s : Answer Both) → supertypes rd xs ≡ a → streams rd xs ≡ s
-          → mapped (map (λ (c : Combined Path). numberFor rd xs (c .owner))) a ≡ mapped (λ (b : Both). firsts eqb [] (map (λ c. c .owner) (b .0) ++ map (λ x. x .super) (b .1))) s → Alike a s
-      by (done g) (done b) i j e = both-done i j (cc)
-      by (done g) (refused n p) i j e = clash (cc)
-      by (refused n p) (done b) i j e = clash (cc)
-      by (refused n p) (refused m q) i j e = let y : n ≡ m = cc in let z : p ≡ q = cc in rw (y, z) both-refused
-
   pub supertype-by : (p : Path) → isSupertype rd xs p ≡ (streams rd xs >>= λ b. done (ownedIn (declarationFor rd xs p) b))
   unfolding isSupertype ownedIn numberedExpr combined
-  supertype-by p = by alike
+  supertype-by p = by (alike rd xs)
     where
       found : (g : List (Combined Path)) (b : Both) → supertypes rd xs ≡ done g → streams rd xs ≡ done b → (o : Option Declaration) → declarationFor rd xs p ≡ o → isSome (find (samePath rd) p g) ≡ ownedIn o b
       found g b i j none k = found-not (numberFor rd xs) (find (samePath rd) p g) (rw (i, j) at (no-expr rd xs p k))
       found g b i j (some d) k = found-as (numberFor rd xs) (find (samePath rd) p g) (combinedOf eqb (d .number) (b .0) (b .1)) (rw (i, j) at (numbered-expr rd xs p d k)) ∙ sym (owned (d .number) (b .0) (b .1))
 
-      by : {a : Answer (List (Combined Path))} {s : Answer Both} → Alike a s → mapped (λ g. isSome (find (samePath rd) p g)) a ≡ (s >>= λ b. done (ownedIn (declarationFor rd xs p) b))
+      by : {a : Answer (List (Combined Path))} {s : Answer Both} → Alike rd xs a s → mapped (λ g. isSome (find (samePath rd) p g)) a ≡ (s >>= λ b. done (ownedIn (declarationFor rd xs p) b))
       by (both-done {g = g} {b = b} i j e) = ap done (found g b i j (declarationFor rd xs p) refl)
       by both-refused = refl
 
-  -- ---- the list
-  pub list-by : (p : Path) → listOf rd xs p ≡ (streams rd xs >>= λ b. listIn (declarationFor rd xs p) b)
-  unfolding listOf listIn listBy
-  list-by p = by (declarationFor rd xs p) refl
-    where
-      after : (s : Answer Both) (k : Both → Answer (Expr ℕ)) → ((s >>= k) >>= eval) ≡ (s >>= λ b. k b >>= eval)
-      after (done b) k = refl
-      after (refused n m) k = refl
-
-      by : (o : Option Declaration) → declarationFor rd xs p ≡ o → (numberedExpr rd xs p >>= eval) ≡ (streams rd xs >>= λ b. listIn o b)
-      by none k = rw (no-expr rd xs p k) (after (streams rd xs) (λ b. refused 16 0))
-      by (some d) k = rw (numbered-expr rd xs p d k) (after (streams rd xs) (λ b. answered 16 0 (combinedOf eqb (d .number) (b .0) (b .1))))
-
-  -- ---- the owners in order
-  at-mapped : {A B : Type 0} (f : A → B) (g : List A) (k : ℕ) → mapped f (or17 (getElem? g k)) ≡ or17 (getElem? (map f g) k)
-  at-mapped f [] zero = refl
-  at-mapped f [] (suc k) = refl
-  at-mapped f (x ∷ g) zero = refl
-  at-mapped f (x ∷ g) (suc k) = at-mapped f g k
-
-  pub owners-both : (cs : List (Combined ℕ)) (ps : List (Pair ℕ)) → map (λ (c : Combined ℕ). c .owner) (cs ++ map paired ps) ≡ map (λ (c : Combined ℕ). c .owner) cs ++ map (λ (x : Pair ℕ). x .super) ps
-  owners-both [] [] = refl
-  owners-both [] (x ∷ ps) = ap (λ (l : List ℕ). x .super ∷ l) (owners-both [] ps)
-  owners-both (c ∷ cs) ps = ap (λ (l : List ℕ). c .owner ∷ l) (owners-both cs ps)
-
   pub owner-by : (k : ℕ) → askSupertype rd xs k ≡ (streams rd xs >>= λ b. ownerIn k b)
   unfolding askSupertype ownerIn
-  owner-by k = by alike
+  owner-by k = by (alike rd xs)
     where
-      by : {a : Answer (List (Combined Path))} {s : Answer Both} → Alike a s
+      by : {a : Answer (List (Combined Path))} {s : Answer Both} → Alike rd xs a s
           → (a >>= λ g. mapped (λ c. numberFor rd xs (c .owner)) (or17 (getElem? g k))) ≡ (s >>= λ b. or17 (getElem? (firsts eqb [] (map (λ (c : Combined ℕ). c .owner) (b .0 ++ map paired (b .1)))) k))
-      by (both-done {g = g} {b = b} i j e) = at-mapped (λ c. numberFor rd xs (c .owner)) g k ∙ ap (λ (l : List ℕ). or17 (getElem? l k)) (e ∙ ap (firsts eqb []) (sym (owners-both (b .0) (b .1))))
+      by (both-done {g = g} {b = b} i j e) = at-mapped (λ c. numberFor rd xs (c .owner)) g k ∙ ap (λ (l : List ℕ). or17 (getElem? l k)) (e ∙ ap (firsts eqb []) (sym (owners-both rd xs (b .0) (b .1))))
       by both-refused = refl

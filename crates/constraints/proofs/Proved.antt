@@ -1,30 +1,26 @@
 -- Every claim holds.
 use mathlib.Core.Path.{_≡_, refl, sym, ap, _∙_}
 use mathlib.Core.List.{List}
-use mathlib.Core.Bool.{Bool, true, false}
 use Prim.Native.Nat.{ℕ}
 use lib.ListN.{length}
-use Rattle.refusal.specs.MeaningAnswer.{Answer, done, refused}
-use Rattle.refusal.specs.declared.Refusal.{Refusal}
-use Rattle.sheet.specs.MeaningReading.{Reading}
-use Rattle.sheet.proofs.Choosing.{clash}
-use Rattle.scope.specs.MeaningQuery.{pathQuery}
+use Rattle.refusal.specs.MeaningAnswer.{Answer, done}
+use Rattle.refusal.proofs.Same.{same-refusal}
+use Rattle.grammar.proofs.Choosing.{clash}
+use Rattle.query.specs.MeaningQuery.{pathQuery}
 use Rattle.complex_entity.specs.MeaningParts.{Part}
 use Rattle.instantiables.specs.declared.Listed.{Listed}
-use Rattle.algebra.specs.MeaningOperands.{readPart}
-use Rattle.algebra.specs.MeaningQuestions.{both, part}
-use Rattle.algebra.proofs.Once as rows
+use Rattle.operands.specs.MeaningOperands.{readPart, both, part}
+use Rattle.operands.proofs.Once as rows
 use Rattle.expression.specs.Told.{toldNumber}
 use Rattle.expression.specs.declared.Numbered.{Numbered}
 use Rattle.expression.specs.declared.Numbered.the-variants as numbered
-use Rattle.namespace.specs.MeaningOrder.{schemasIn, Answers}
-use Rattle.namespace.specs.Told.{toldFound}
-use Rattle.namespace.specs.declared.Found.{Found}
-use Rattle.namespace.specs.declared.Found.the-variants as found
+use Rattle.declarations.specs.MeaningNamespace.{schemasIn}
+use Rattle.declarations.specs.Told.{toldFound}
+use Rattle.declarations.proofs.Proved.{get-apart, found-once}
 use Rattle.namespace.proofs.Clearing.{answers-once}
-use Rattle.namespace.proofs.Proved.{get-apart}
 use Rattle.gathering.proofs.Declaring.{number-is}
-use Rattle.constraints.specs.MeaningQuestions.{enough, left, isSupertype, askList, askNumber, askRowInto, askSupertype}
+use Rattle.supertypes.specs.MeaningWorkspace.{enough}
+use Rattle.constraints.specs.MeaningQuestions.{isSupertype, askList, askNumber, askRowInto, askSupertype}
 use Rattle.constraints.specs.Told.{toldDecision}
 use Rattle.constraints.specs.Promises.{Promise-supertype, Rows, Promise-list, Promise-row, Promise-number, Promise-kth}
 use Rattle.constraints.specs.Claims.{Demand3, Names-apart, SupertypeOnce, ListOnce, RowOnce, NumberOnce, KthOnce}
@@ -44,10 +40,6 @@ names-apart rd s p q P Q =
 
 -- ---- different answers say different things
 
-module _ (r q : Refusal) (n : r .number ≡ q .number) (p : r .place ≡ q .place) where
-  same-refusal : r ≡ q
-  same-refusal = λ i. record { number = n i; place = p i }
-
 decision-once : (a b : Decision) → toldDecision a ≡ toldDecision b → a ≡ b
 unfolding toldDecision
 decision-once Yes Yes e = refl
@@ -65,13 +57,6 @@ numbered-once (numbered.Number i) (numbered.Number j) e = cc
 numbered-once (numbered.Number i) (numbered.Refused r) e = clash (cc)
 numbered-once (numbered.Refused r) (numbered.Number i) e = clash (cc)
 numbered-once (numbered.Refused r) (numbered.Refused q) e = ap numbered.Refused (same-refusal r q (cc) (cc))
-
-found-once : (a b : Found) → toldFound a ≡ toldFound b → a ≡ b
-unfolding toldFound
-found-once (found.Number i) (found.Number j) e = cc
-found-once (found.Number i) (found.Refused r) e = clash (cc)
-found-once (found.Refused r) (found.Number i) e = clash (cc)
-found-once (found.Refused r) (found.Refused q) e = ap found.Refused (same-refusal r q (cc) (cc))
 
 -- ---- one input allows one outcome
 

@@ -1,159 +1,84 @@
 -- Each question put together: what was asked, what was gathered, what is found there, and what is left.
 use mathlib.Core.Path.{_≡_, refl, sym, ap, _∙_, subst}
-use mathlib.Core.List.{List, [], _∷_, _++_, map}
+use mathlib.Core.List.{List}
 use mathlib.Core.Bool.{Bool, true, false}
-use mathlib.Core.Option.{Option, none, some}
-use Prim.Native.Nat.{ℕ, _≤_}
-use native.Mathlib.Omega.{arith}
-use lib.Dec.{eqb}
-use lib.ListN.{length, take, drop, getElem?}
+use Prim.Native.Nat.{ℕ}
+use lib.ListN.{length, drop}
 use Rattle.refusal.specs.MeaningAnswer.{Answer, done, refused, mapped, _>>=_}
 use Rattle.refusal.specs.Told.{toldRefusal}
 use Rattle.refusal.specs.declared.Refusal.{Refusal}
-use Rattle.sheet.specs.MeaningReading.{Reading}
-use Rattle.sheet.proofs.Choosing.{clash}
-use Rattle.schemas.specs.MeaningSchemas.{Schema}
+use Rattle.grammar.specs.MeaningReading.{Reading}
+use Rattle.grammar.proofs.Choosing.{clash}
 use Rattle.scope.specs.Told.{toldPath}
 use Rattle.scope.specs.MeaningScope as meaning
-use Rattle.scope.specs.MeaningQuery.{pathQuery}
-use Rattle.scope.specs.MirrorQuery.{askedPathOf}
-use Rattle.scope.specs.declared.AskedPath.{AskedPath}
-use Rattle.scope.specs.declared.Verdict.{Verdict}
-use Rattle.scope.specs.declared.Verdict.the-variants as verdict
+use Rattle.query.specs.MeaningQuery.{pathQuery}
+use Rattle.query.specs.MirrorQuery.{askedPathOf}
+use Rattle.query.specs.declared.AskedPath.{AskedPath}
+use Rattle.query.specs.declared.Verdict.{Verdict}
+use Rattle.query.specs.declared.Verdict.the-variants as verdict
 use Rattle.complex_entity.specs.MeaningParts.{Part}
 use Rattle.complex_entity.specs.MirrorParts.{namesOf}
 use Rattle.instantiables.specs.declared.Listed.{Listed}
-use Rattle.algebra.specs.MeaningOperands.{readPart}
-use Rattle.algebra.specs.MeaningQuestions.{both, part, fitting, one}
-use Rattle.algebra.specs.Promises as rows
-use Rattle.expression.specs.MeaningNumbers.{numberOf, setAt, or17}
+use Rattle.operands.specs.MeaningOperands.{readPart, both, part}
+use Rattle.operands.specs.MeaningResults.{fitting}
+use Rattle.operands.specs.Promises as rows
+use Rattle.expression.specs.MeaningNumbers.{numberOf, setAt}
 use Rattle.expression.specs.Told.{toldNumber}
 use Rattle.expression.specs.declared.Numbered.{Numbered}
 use Rattle.expression.specs.declared.Valued.{Valued}
 use Rattle.expression.specs.declared.Valued.the-variants as valued
-use Rattle.lookup.specs.declared.Sought.{Sought}
-use Rattle.lookup.specs.declared.Sought.the-variants.{At, Past}
-use Rattle.namespace.specs.MeaningNamespace.{Declaration, declarationFor}
-use Rattle.namespace.specs.MeaningOrder.{schemasIn, Answers}
-use Rattle.namespace.specs.MirrorNamespace.{soughtOf}
-use Rattle.namespace.specs.Told.{toldFound, toldVerdict}
-use Rattle.namespace.specs.declared.Found.{Found}
-use Rattle.namespace.specs.declared.Found.the-variants as found
-use Rattle.namespace.proofs.Asking.{small-at, path-back, path-scope, path-item}
-use Rattle.merging.specs.MeaningMerging.{Combined, find}
-use Rattle.merging.specs.Claims.{firsts}
-use Rattle.merging.specs.MirrorStream.{streamOf, paired, isFound, ownerOf}
-use Rattle.merging.specs.declared.Owner.{Owner}
-use Rattle.merging.specs.declared.Owner.the-variants as owner
+use Rattle.declarations.specs.MeaningNamespace.{schemasIn, declarationFor}
+use Rattle.declarations.specs.Told.{toldFound}
+use Rattle.declarations.specs.declared.Found.{Found}
+use Rattle.declarations.specs.declared.Found.the-variants as found
+use Rattle.namespace.specs.MeaningOrder.{Answers}
+use Rattle.namespace.specs.Told.{toldVerdict}
+use Rattle.namespace.proofs.Asking.{told-path, path-back}
 use Rattle.gathering.specs.MeaningCombined.{listOf}
 use Rattle.gathering.specs.MirrorGathering.{streams}
-use Rattle.gathering.specs.MirrorWalk.{toldGathered}
 use Rattle.gathering.specs.declared.Gathered.{Gathered}
 use Rattle.gathering.specs.declared.Gathered.the-variants as gathered
 use Rattle.gathering.specs.declared.Streams.{Streams}
-use Rattle.constraints.specs.MeaningQuestions.{enough, left, isSupertype, askList, askNumber, askRow, askRowInto, askSupertype}
-use Rattle.constraints.specs.MirrorStanding.{Both, Standing, Stood, Gathers, ownedIn, ownerIn, listBy, listIn, listAt, StandsIf, ListedAs, inTurn, beside, Lists, listInto, setInto, rowInto, placeIn, RowRead}
+use Rattle.supertypes.specs.MeaningWorkspace.{enough, left}
+use Rattle.supertypes.proofs.Asking.{asked-refused, asked-done}
+use Rattle.constraints.specs.MeaningQuestions.{isSupertype, askList, askNumber, askRow, askRowInto, askSupertype}
+use Rattle.supertypes.specs.MirrorStanding.{Both, Standing, Gathers, listIn, listAt, StandsIf, ListedAs, ownedIn, ownerIn}
+use Rattle.constraints.specs.MirrorAnswers.{inTurn, beside, Lists, listInto, setInto, rowInto, placeIn, RowRead}
 use Rattle.constraints.specs.Told.{toldDecision}
 use Rattle.constraints.specs.Promises.{Promise-supertype, Rows, Promise-list, Promise-row, Promise-number, Promise-kth}
 use Rattle.constraints.specs.declared.AskedRow.{AskedRow}
 use Rattle.constraints.specs.declared.Decision.{Decision}
 use Rattle.constraints.specs.declared.Decision.the-variants.{Yes, No, Refused}
-use Rattle.constraints.proofs.Answering.{answers-then}
-use Rattle.constraints.proofs.Owning.{supertype-by, list-by, owner-by}
-use Rattle.constraints.proofs.Standing.{standing-all, left-same}
+use Rattle.supertypes.proofs.Answering.{answers-then}
+use Rattle.supertypes.proofs.Owning.{list-by}
+use Rattle.constraints.proofs.Owning.{supertype-by, owner-by}
+use Rattle.supertypes.proofs.Standing.{left-same}
 
--- ---- what a declaration's number is found to be
+-- ---- a decision
 
-module _ (o : Option Declaration) (v : Sought) (q : v ≡ soughtOf o) (n : ℕ) where
-  lost : v ≡ Past n → o ≡ none
-  unfolding soughtOf
-  lost e = by o (sym q ∙ e)
-    where
-      by : (o : Option Declaration) → soughtOf o ≡ Past n → o ≡ none
-      by none z = refl
-      by (some d) z = clash (cc)
+module _ (is : Bool) where
+  pub told-yes : is ≡ true → toldDecision Yes ≡ done is
+  unfolding toldDecision
+  told-yes e = rw e refl
 
-  numbered : v ≡ At n → (d : Declaration) × (o ≡ some d) × (d .number ≡ n)
-  unfolding soughtOf
-  numbered e = by o (sym q ∙ e)
-    where
-      by : (o : Option Declaration) → soughtOf o ≡ At n → (d : Declaration) × (o ≡ some d) × (d .number ≡ n)
-      by none z = clash (cc)
-      by (some d) z = (d, refl, cc)
+  pub told-no : is ≡ false → toldDecision No ≡ done is
+  unfolding toldDecision
+  told-no e = rw e refl
 
-  module _ (x : Streams) (w : List ℕ) where
-    pub decide-none : v ≡ Past n → (b : Both) → Standing b x w → toldDecision No ≡ done (ownedIn o b)
-    unfolding ownedIn toldDecision
-    decide-none e b S = rw (lost e) refl
+-- ---- the query's verdict before the row's
 
-    module _ (e : v ≡ At n) (is : Bool) (f : (cs : List (Combined ℕ)) → take (x .used) w ≡ streamOf cs → is ≡ isFound (find eqb n cs)) where
-      owned-is : (b : Both) → Standing b x w → is ≡ ownedIn o b
-      unfolding ownedIn
-      owned-is b S = let d = numbered e in rw (d .1, d .2) (f (b .0 ++ map paired (b .1)) (standing-all S))
+module _ (q r : Verdict) where
+  pub turn-refused : (why : Refusal) → q ≡ verdict.Refused why → toldVerdict q ≡ inTurn (toldVerdict q) (toldVerdict r)
+  unfolding inTurn toldVerdict
+  turn-refused why e = rw e refl
 
-      pub decide-yes : is ≡ true → (b : Both) → Standing b x w → toldDecision Yes ≡ done (ownedIn o b)
-      unfolding toldDecision
-      decide-yes y b S = ap done (sym y ∙ owned-is b S)
+  pub turn-on : q ≡ verdict.Done → toldVerdict r ≡ inTurn (toldVerdict q) (toldVerdict r)
+  unfolding inTurn toldVerdict
+  turn-on e = rw e refl
 
-      pub decide-no : is ≡ false → (b : Both) → Standing b x w → toldDecision No ≡ done (ownedIn o b)
-      unfolding toldDecision
-      decide-no y b S = ap done (sym y ∙ owned-is b S)
-
-    pub list-lost : v ≡ Past n → (why : Refusal) → why ≡ record { number = 16; place = 0 } → (b : Both) → Standing b x w → ListedAs (listIn o b) (valued.Refused why) w
-    unfolding listIn listAt StandsIf
-    list-lost e why k b S = record { is = rw (k, lost e) refl; stands = tt }
-
-    pub list-numbered : v ≡ At n → (r : Valued) (w' : List ℕ) → ((b : Both) → Standing b x w → ListedAs (listBy n b) r w') → (b : Both) → Standing b x w → ListedAs (listIn o b) r w'
-    unfolding listIn
-    list-numbered e r w' f b S = let d = numbered e in rw (d .1, d .2) (f b S)
-
-pub ruleset deciding = (decide-none, decide-yes, decide-no, small-at)
-
-pub ruleset listing = (list-lost, list-numbered, small-at)
-
--- ---- the owner of a number
-
-module _ (x : Streams) (w : List ℕ) (k : ℕ) (o : Owner) (f : (cs : List (Combined ℕ)) → take (x .used) w ≡ streamOf cs → o ≡ ownerOf (getElem? (firsts eqb [] (map (λ (c : Combined ℕ). c .owner) cs)) k)) where
-  pub count-at : (n : ℕ) → o ≡ owner.At n → (b : Both) → Standing b x w → toldFound (found.Number n) ≡ ownerIn k b
-  unfolding toldFound ownerIn
-  count-at n e b S = by (getElem? (firsts eqb [] (map (λ (c : Combined ℕ). c .owner) (b .0 ++ map paired (b .1)))) k) (sym e ∙ f (b .0 ++ map paired (b .1)) (standing-all S))
-    where
-      by : (m : Option ℕ) → owner.At n ≡ ownerOf m → done n ≡ or17 m
-      by none z = clash (cc)
-      by (some i) z = cc
-
-  pub count-past : o ≡ owner.Past → (why : Refusal) → why ≡ record { number = 17; place = 0 } → (b : Both) → Standing b x w → toldFound (found.Refused why) ≡ ownerIn k b
-  unfolding toldFound ownerIn
-  count-past e why u b S = rw u (by (getElem? (firsts eqb [] (map (λ (c : Combined ℕ). c .owner) (b .0 ++ map paired (b .1)))) k) (sym e ∙ f (b .0 ++ map paired (b .1)) (standing-all S)))
-    where
-      by : (m : Option ℕ) → owner.Past ≡ ownerOf m → refused 17 0 ≡ or17 m
-      by none z = refl
-      by (some i) z = clash (cc)
-
--- ---- a question whose own answer is made of the records
-
-module _ {A B : Type 0} (rd : Reading) (s work : List ℕ) (asked : Answer (Unit {0})) (r : Gathered) (work' : List ℕ) (g : Gathers rd s work asked r work') (o : Answer A) (h : asked ≡ mapped (λ a. tt {0}) o)
-    (own : A → Answer B) (k : Both → Answer B) (go : (a : A) → o ≡ done a → own a ≡ (streams rd (schemasIn s) >>= k)) where
-  gathered-then : Answers rd s (enough work) o own (g .both >>= k)
-  gathered-then = answers-then asked o (λ u. streams rd (schemasIn s)) own (λ a. tt {0}) k h go rd s (enough work) (g .both) (g .is)
-
-  pub asked-refused : (why : Refusal) → r ≡ gathered.Refused why → Answers rd s (enough work) o own (toldRefusal why)
-  unfolding toldGathered
-  asked-refused why e = rw (by (g .both) _ (sym (ap toldGathered e) ∙ g .says)) at gathered-then
-    where
-      by : (m : Answer Both) (f : Both → ℕ × ℕ) → refused (why .number) (why .place) ≡ mapped f m → m ≡ refused (why .number) (why .place)
-      by (done b) f z = clash (cc)
-      by (refused n p) f z = cc
-
-  pub asked-done : (x : Streams) → r ≡ gathered.Done x → (t : Answer B) → ((b : Both) → Standing b x work' → t ≡ k b) → Answers rd s (enough work) o own t
-  asked-done x e t f = let z = g .stands x e in rw (z .1, ← f (z .0) (z .2)) at gathered-then
+pub ruleset turning = (turn-refused, turn-on)
 
 -- ---- the path that a query asks for
-
-told-path : (o : Answer meaning.Path) → toldVerdict (askedPathOf o .verdict) ≡ mapped (λ x. tt {0}) o
-unfolding toldVerdict askedPathOf
-told-path (refused n p) = refl
-told-path (done a) = refl
 
 module _ (q : List ℕ) (a : AskedPath) (h : a ≡ askedPathOf (pathQuery q)) where
   the-path : (p : meaning.Path) → pathQuery q ≡ done p → toldPath q (a .path) ≡ p
@@ -171,11 +96,11 @@ module _ (q : List ℕ) (a : AskedPath) (h : a ≡ askedPathOf (pathQuery q)) wh
         asked-refused rd s work (toldVerdict (a .verdict)) r work' g (pathQuery q) telling (isSupertype rd (schemasIn s)) (λ b. done (ownedIn (declarationFor rd (schemasIn s) (toldPath q (a .path))) b))
         (λ p i. rw (the-path p i) (supertype-by rd (schemasIn s) p)) why e
 
-    pub decided-done : (x : Streams) → r ≡ gathered.Done x → (t : Decision) → ((b : Both) → Standing b x work' → toldDecision t ≡ done (ownedIn (declarationFor rd (schemasIn s) (toldPath q (a .path))) b))
+    pub decided-done : (x : Streams) → r ≡ gathered.Done x → (is : Bool) → ((b : Both) → Standing b x work' → is ≡ ownedIn (declarationFor rd (schemasIn s) (toldPath q (a .path))) b) → (t : Decision) → toldDecision t ≡ done is
         → Answers rd s (enough work) (pathQuery q) (isSupertype rd (schemasIn s)) (toldDecision t)
-    decided-done x e t f =
+    decided-done x e is f t d =
         asked-done rd s work (toldVerdict (a .verdict)) r work' g (pathQuery q) telling (isSupertype rd (schemasIn s)) (λ b. done (ownedIn (declarationFor rd (schemasIn s) (toldPath q (a .path))) b))
-        (λ p i. rw (the-path p i) (supertype-by rd (schemasIn s) p)) x e (toldDecision t) f
+        (λ p i. rw (the-path p i) (supertype-by rd (schemasIn s) p)) x e (toldDecision t) (λ b S. d ∙ ap done (f b S))
 
   -- ---- a list
   module _ (row t : Verdict) (u : toldVerdict t ≡ inTurn (toldVerdict (a .verdict)) (toldVerdict row)) where
@@ -221,14 +146,6 @@ module _ (q : List ℕ) (a : AskedPath) (h : a ≡ askedPathOf (pathQuery q)) wh
             stands = record { is = refl; stands = f (z .0) (z .2) .stands };
             kept = left-same s work' w (z .3) (z .2 .roomy) n ∙ g .kept;
           }
-
--- records stand where they were gathered, and the sheet is short
-module _ (rd : Reading) (s work : List ℕ) (asked : Answer (Unit {0})) (r : Gathered) (work' : List ℕ) (g : Gathers rd s work asked r work') (x : Streams) (e : r ≡ gathered.Done x) where
-  pub gathered-stood : Stood x work'
-  gathered-stood = let z = g .stands x e in record { both = z .0; stands = z .2 }
-
-  pub gathered-short : length s ≤ 65535
-  gathered-short = g .stands x e .3
 
 -- ---- `supertype_at`
 

@@ -4,21 +4,22 @@ use mathlib.Core.Path.{_≡_}
 use mathlib.Core.Logic.{_↔_}
 use mathlib.Core.List.{List}
 use mathlib.Core.Bool.{true}
-use mathlib.Core.Option.{some}
 use lib.ListN.{length}
 use Rattle.refusal.specs.MeaningAnswer.{done, refused}
-use Rattle.sheet.specs.MeaningReading.{Reading}
+use Rattle.grammar.specs.MeaningReading.{Reading}
 use Rattle.scope.specs.MeaningScope.{Path, samePath}
-use Rattle.scope.specs.MeaningQuery.{pathQuery}
+use Rattle.query.specs.MeaningQuery.{pathQuery}
 use Rattle.complex_entity.specs.MeaningSets.{_∈_, Rising}
 use Rattle.complex_entity.specs.MeaningParts.{Part, order}
 use Rattle.instantiables.specs.declared.Listed.{Listed}
-use Rattle.expression.specs.MeaningExpression.{Expr, Builds}
+use Rattle.expression.specs.MeaningExpression.{Expr}
+use Rattle.expression.specs.MeaningBuilds.{Builds}
 use Rattle.expression.specs.declared.Numbered.{Numbered}
 use Rattle.merging.specs.MeaningNumbering.{mapExpr}
-use Rattle.namespace.specs.MeaningOrder.{schemasIn}
-use Rattle.namespace.specs.declared.Found.{Found}
-use Rattle.gathering.specs.MeaningCombined.{combined, numberFor, listOf}
+use Rattle.declarations.specs.MeaningNamespace.{schemasIn}
+use Rattle.declarations.specs.declared.Found.{Found}
+use Rattle.records.specs.MeaningResolving.{numberFor}
+use Rattle.gathering.specs.MeaningCombined.{combined, listOf}
 use Rattle.gathering.specs.Claims.{IsDeclared, Every}
 use Rattle.constraints.specs.MeaningQuestions.{askNumber, askRow}
 use Rattle.constraints.specs.Promises.{Promise-supertype, Promise-list, Promise-row, Promise-number, Promise-kth}

@@ -3,4 +3,4 @@ pub mod MeaningQuestions
 pub mod Told
 pub mod Promises
 pub mod Claims
-pub mod MirrorStanding
+pub mod MirrorAnswers

@@ -1,33 +1,19 @@
 -- The questions about supertypes: what each answers for the schemas of an accepted sheet, and what is left in the lent workspace.
 use Prim.Native.Nat.{ℕ}
-use mathlib.Core.List.{List, [], _∷_, map}
-use mathlib.Core.Bool.{Bool, true, false, cond, _&&_}
+use mathlib.Core.List.{List}
+use mathlib.Core.Bool.{Bool, true, false}
 use mathlib.Core.Option.{Option, none, some}
-use lib.ListN.{length, getElem?, replicate}
-use lib.Dec.{leb}
-use Rattle.refusal.specs.MeaningAnswer.{Answer, done, mapped, _>>=_}
-use Rattle.sheet.specs.MeaningReading.{Reading}
-use Rattle.sheet.specs.MeaningGrammar.{most-bytes}
+use lib.ListN.{getElem?}
+use Rattle.refusal.specs.MeaningAnswer.{Answer, mapped, _>>=_}
+use Rattle.grammar.specs.MeaningReading.{Reading}
 use Rattle.schemas.specs.MeaningSchemas.{Schema}
 use Rattle.scope.specs.MeaningScope.{Path, samePath}
 use Rattle.complex_entity.specs.MeaningParts.{Part}
-use Rattle.algebra.specs.MeaningQuestions.{fitting, one}
-use Rattle.expression.specs.MeaningExpression.{Expr}
+use Rattle.operands.specs.MeaningResults.{fitting, one}
 use Rattle.expression.specs.MeaningNumbers.{numberOf, setAt, or17}
 use Rattle.merging.specs.MeaningMerging.{find}
-use Rattle.gathering.specs.MeaningCombined.{supertypes, numberFor, listOf}
-
--- ---- "Questions about supertypes .. borrow a workspace of at least 32,768 u16 numbers."
-
-abbrev pub least-work : ℕ
-least-work = 32768
-
-unfoldable pub enough : List ℕ → Bool
-enough work = leb least-work (length work)
-
--- "Refusals 1 and 2 leave the workspace; any other answer leaves it all zero."
-unfoldable pub left : (sheet work : List ℕ) → List ℕ
-left s work = cond (leb (length s) most-bytes && enough work) (replicate (length work) 0) work
+use Rattle.records.specs.MeaningResolving.{numberFor}
+use Rattle.gathering.specs.MeaningCombined.{supertypes, listOf}
 
 -- ---- the questions
 

@@ -3,20 +3,21 @@ use Prim.Native.Nat.{ℕ}
 use mathlib.Core.Path.{_≡_}
 use mathlib.Core.List.{List}
 use lib.ListN.{length}
-use Rattle.refusal.specs.MeaningAnswer.{Answer, done, mapped}
-use Rattle.sheet.specs.MeaningReading.{Reading}
-use Rattle.scope.specs.MeaningQuery.{pathQuery}
+use Rattle.refusal.specs.MeaningAnswer.{Answer, done}
+use Rattle.grammar.specs.MeaningReading.{Reading}
+use Rattle.query.specs.MeaningQuery.{pathQuery}
 use Rattle.complex_entity.specs.MeaningParts.{Part}
 use Rattle.instantiables.specs.declared.Listed.{Listed}
-use Rattle.algebra.specs.MeaningOperands.{readPart}
-use Rattle.algebra.specs.MeaningQuestions.{both, part}
-use Rattle.algebra.specs.Promises as rows
+use Rattle.operands.specs.MeaningOperands.{readPart, both, part}
+use Rattle.operands.specs.Promises as rows
 use Rattle.expression.specs.Told.{toldNumber}
 use Rattle.expression.specs.declared.Numbered.{Numbered}
-use Rattle.namespace.specs.MeaningOrder.{schemasIn, Answers}
-use Rattle.namespace.specs.Told.{toldFound}
-use Rattle.namespace.specs.declared.Found.{Found}
-use Rattle.constraints.specs.MeaningQuestions.{enough, left, isSupertype, askList, askNumber, askRowInto, askSupertype}
+use Rattle.declarations.specs.MeaningNamespace.{schemasIn}
+use Rattle.declarations.specs.Told.{toldFound}
+use Rattle.declarations.specs.declared.Found.{Found}
+use Rattle.namespace.specs.MeaningOrder.{Answers}
+use Rattle.supertypes.specs.MeaningWorkspace.{enough, left}
+use Rattle.constraints.specs.MeaningQuestions.{isSupertype, askList, askNumber, askRowInto, askSupertype}
 use Rattle.constraints.specs.Told.{toldDecision}
 use Rattle.constraints.specs.declared.Decision.{Decision}
 

@@ -2,61 +2,51 @@
 //
 // The questions about supertypes: which there are, their lists, and the numbers of the sets in a list.
 ghost use mathlib.Core.Path.{_≡_};
-ghost use Prim.Native.Nat.{_≤_};
-ghost use lib.Dec.{eqb};
 ghost use lib.ListN.{length, drop};
 ghost use Rattle.refusal.specs.MeaningAnswer.{Answer, done};
-ghost use Rattle.sheet.specs.MeaningReading.Reading.{rust};
+ghost use Rattle.grammar.specs.MeaningReading.Reading.{rust};
 ghost use Rattle.sheet.specs.Told.{toldReading};
-ghost use Rattle.scope.specs.Told.{toldPath};
-ghost use Rattle.scope.specs.MeaningQuery.{pathQuery};
-ghost use Rattle.scope.specs.MirrorScope.{Spans};
+ghost use Rattle.query.specs.MeaningQuery.{pathQuery};
 ghost use Rattle.complex_entity.specs.MeaningParts.{Part};
 ghost use Rattle.complex_entity.specs.MirrorParts.{namesOf, madeOf};
-ghost use Rattle.algebra.specs.Promises as rows;
+ghost use Rattle.operands.specs.Promises as rows;
 ghost use Rattle.expression.specs.Told.{toldNumber};
-ghost use Rattle.namespace.specs.MeaningNamespace.{declarationFor};
-ghost use Rattle.namespace.specs.MeaningOrder.{schemasIn, Answers};
-ghost use Rattle.namespace.specs.Told.{toldFound, toldVerdict};
-ghost use Rattle.merging.specs.MeaningItems.{combinedOf};
-ghost use Rattle.merging.specs.MirrorStream.{Holds};
-ghost use Rattle.constraints.specs.MeaningQuestions.{enough, left, isSupertype, askSupertype};
-ghost use Rattle.constraints.specs.MirrorStanding.{Both, Standing, Stood, Gathers, ownedIn, ownerIn, listBy, listIn, listAt, StandsIf, ListedAs, inTurn, Lists, listInto, setInto, rowInto, RowRead, placeIn};
+ghost use Rattle.declarations.specs.MeaningNamespace.{schemasIn};
+ghost use Rattle.declarations.specs.Told.{toldFound};
+ghost use Rattle.namespace.specs.MeaningOrder.{Answers};
+ghost use Rattle.namespace.specs.Told.{toldVerdict};
+ghost use Rattle.supertypes.specs.MeaningWorkspace.{enough, left};
+ghost use Rattle.constraints.specs.MeaningQuestions.{isSupertype, askSupertype};
+ghost use Rattle.supertypes.specs.MirrorStanding.{listAt, StandsIf};
+ghost use Rattle.constraints.specs.MirrorAnswers.{inTurn, Lists, listInto, setInto, rowInto, RowRead, placeIn};
 ghost use Rattle.constraints.specs.Told.{toldDecision};
 ghost use Rattle.constraints.specs.Promises.{Promise-supertype, Promise-list, Promise-row, Promise-number, Promise-kth};
-use algebra::Operand;
-use algebra::Read;
-use algebra::hand_out;
-use algebra::hand_out_part;
-use algebra::read_operand;
 use complex_entity::Made;
 use complex_entity::PartialComplexEntity;
 use complex_entity::Verdict as Making;
+use declarations::Found;
 use expression::Numbered;
 use expression::Valued;
 use expression::number_of as number_in;
 use expression::set_at;
 use gathering::Gathered;
-use gathering::Streams;
-use gathering::gather;
 use instantiables::Instantiables;
 use instantiables::Listed;
-use lookup::Sought;
-use merging::Combination;
-use merging::Owner;
-use merging::clear;
-use merging::combine;
-use merging::is_owner;
-use merging::owner_at;
-use merging::value;
-use namespace::Found;
-use namespace::cleared;
-use namespace::number_for;
+use operands::Operand;
+use operands::Read;
+use operands::hand_out;
+use operands::hand_out_part;
+use operands::read_operand;
+use query::Verdict;
+use query::read_path;
 use refusal::Refusal;
-use scope::Path;
-use scope::Verdict;
-use scope::read_path;
 use sheet::Reading;
+use supertypes::RECORDS;
+use supertypes::count_to;
+use supertypes::gathered;
+use supertypes::list_at;
+use supertypes::owns;
+use supertypes::settle;
 
 pub enum Decision {
     Yes,
@@ -68,81 +58,6 @@ pub enum Decision {
 pub struct AskedRow {
     pub verdict: Verdict,
     pub part: PartialComplexEntity,
-}
-
-// The least workspace.
-pub const WORK: usize = 32768;
-
-// The records stand in front; a list is valued behind them.
-pub const RECORDS: usize = 2048;
-
-// A combined expression takes no more numbers than all records and one node.
-const NODES: usize = 2051;
-
-const MOST_BYTES: usize = 65535;
-
-// ---- Once for as many answers as are wanted: check and gather, then value one supertype after the other.
-
-// 1; 2; the sheet's faults; what was asked; 6 and 8.
-pub fn gathered(reading: Reading, sheet: &[u8], asked: Verdict, workspace: &mut [u16]) -> Gathered
-    ensures { λ r. ⌜ Gathers (toldReading reading) (now (sheet .entry)) (now (workspace .entry)) (toldVerdict asked) r (now (workspace .exit)) ⌝ }
-{
-    let long = WORK <= workspace.len();
-    let clear = cleared(reading, sheet, long, asked);
-    if let Verdict::Refused(why) = clear {
-        return Gathered::Refused(why);
-    }
-    gather(reading, sheet, &mut workspace[..RECORDS])
-}
-
-// The expression of the owner, from the records.
-fn combination(workspace: &[u16], streams: Streams, owner: u16, nodes: &mut [u16]) -> Combination
-    requires { ⌜ Stood streams (now workspace) ⌝ }
-    requires { ⌜ 2051 ≤ length (now nodes) ⌝ }
-    ensures { λ r. ⌜ ((b : Both) → Standing b streams (now (workspace .entry)) → Holds (combinedOf eqb owner (b .0) (b .1)) (now (nodes .exit)) r) ⌝ }
-{
-    let rules = streams.rules;
-    let used = streams.used;
-    combine(&workspace[..rules], &workspace[rules..used], owner, nodes)
-}
-
-// The list of the owner's expression, which is built at the front of `nodes`.
-fn value_of(workspace: &mut [u16], streams: Streams, owner: u16, nodes: &mut [u16]) -> Valued
-    requires { ⌜ Stood streams (now workspace) ⌝ }
-    requires { ⌜ 2051 ≤ length (now nodes) ⌝ }
-    ensures listed { λ r. ⌜ ((b : Both) → Standing b streams (now (workspace .entry)) → ListedAs (listBy owner b) r (now (workspace .exit))) ⌝ }
-    ensures stay { λ _. ⌜ ((b : Both) → Standing b streams (now (workspace .entry)) → Standing b streams (now (workspace .exit))) ⌝ }
-{
-    let expr = combination(workspace, streams, owner, nodes);
-    if !expr.found {
-        return Valued::Refused(Refusal::of(16));
-    }
-    let start = expr.start;
-    let stop = expr.stop;
-    value(&nodes[start..stop], &mut workspace[RECORDS..])
-}
-
-// The list of the supertype with the number, in rows behind the records, which stay for the next; 16 where it is none.
-pub fn list_of(workspace: &mut [u16], streams: Streams, owner: u16) -> Valued
-    requires { ⌜ Stood streams (now workspace) ⌝ }
-    ensures listed { λ r. ⌜ ((b : Both) → Standing b streams (now (workspace .entry)) → ListedAs (listBy owner b) r (now (workspace .exit))) ⌝ }
-    ensures stay { λ _. ⌜ ((b : Both) → Standing b streams (now (workspace .entry)) → Standing b streams (now (workspace .exit))) ⌝ }
-{
-    let mut nodes = [0u16; NODES];
-    value_of(workspace, streams, owner, &mut nodes)
-}
-
-// Refusals 1 and 2 leave the workspace; any other answer leaves it all zero.
-pub fn settle(sheet: &[u8], workspace: &mut [u16])
-    ensures { λ _. ⌜ now (workspace .exit) ≡ left (now (sheet .entry)) (now (workspace .entry)) ⌝ }
-{
-    if MOST_BYTES < sheet.len() {
-        return;
-    }
-    if workspace.len() < WORK {
-        return;
-    }
-    clear(workspace);
 }
 
 // ---- The questions.
@@ -177,28 +92,14 @@ fn decided(reading: Reading, sheet: &[u8], query: &[u8], workspace: &mut [u16]) 
     let path = asked.path;
     match gathered(reading, sheet, verdict, workspace) {
         Gathered::Refused(why) => Decision::Refused(why),
-        Gathered::Done(streams) => decide(reading, sheet, query, path, streams, workspace),
+        Gathered::Done(streams) => yes_or_no(owns(reading, sheet, query, path, streams, workspace)),
     }
 }
 
-// Whether the path's number owns a record.
-fn decide(
-    reading: Reading,
-    sheet: &[u8],
-    query: &[u8],
-    path: Path,
-    streams: Streams,
-    workspace: &[u16],
-) -> Decision
-    requires { ⌜ (length (now sheet) ≤ 65535) × Spans (now query) (path .scope .one) × Spans (now query) (path .item) ⌝ }
-    requires { ⌜ Stood streams (now workspace) ⌝ }
-    ensures { λ r. ⌜ ((b : Both) → Standing b streams (now (workspace .entry)) → toldDecision r ≡ done (ownedIn (declarationFor (toldReading reading) (schemasIn (now (sheet .entry))) (toldPath (now (query .entry)) path)) b)) ⌝ }
+fn yes_or_no(yes: bool) -> Decision
+    ensures { λ r. ⌜ toldDecision r ≡ done yes ⌝ }
 {
-    let used = streams.used;
-    let Sought::At(n) = number_for(reading, sheet, query, path) else {
-        return Decision::No;
-    };
-    if is_owner(&workspace[..used], n as u16) {
+    if yes {
         return Decision::Yes;
     }
     Decision::No
@@ -232,25 +133,6 @@ fn in_turn(query: Verdict, row: Verdict) -> Verdict
         return query;
     }
     row
-}
-
-// The list of the path's number.
-fn list_at(
-    reading: Reading,
-    sheet: &[u8],
-    query: &[u8],
-    path: Path,
-    streams: Streams,
-    workspace: &mut [u16],
-) -> Valued
-    requires { ⌜ (length (now sheet) ≤ 65535) × Spans (now query) (path .scope .one) × Spans (now query) (path .item) ⌝ }
-    requires { ⌜ Stood streams (now workspace) ⌝ }
-    ensures { λ r. ⌜ ((b : Both) → Standing b streams (now (workspace .entry)) → ListedAs (listIn (declarationFor (toldReading reading) (schemasIn (now (sheet .entry))) (toldPath (now (query .entry)) path)) b) r (now (workspace .exit))) ⌝ }
-{
-    let Sought::At(n) = number_for(reading, sheet, query, path) else {
-        return Valued::Refused(Refusal::of(16));
-    };
-    list_of(workspace, streams, n as u16)
 }
 
 // The supertype's list, into a lent buffer.
@@ -422,17 +304,5 @@ fn counted(reading: Reading, sheet: &[u8], number: usize, workspace: &mut [u16])
     match gathered(reading, sheet, Verdict::Done, workspace) {
         Gathered::Refused(why) => Found::Refused(why),
         Gathered::Done(streams) => count_to(streams, number, workspace),
-    }
-}
-
-// The number-th owner among the records.
-fn count_to(streams: Streams, number: usize, workspace: &[u16]) -> Found
-    requires { ⌜ Stood streams (now workspace) ⌝ }
-    ensures { λ r. ⌜ ((b : Both) → Standing b streams (now (workspace .entry)) → toldFound r ≡ ownerIn number b) ⌝ }
-{
-    let used = streams.used;
-    match owner_at(&workspace[..used], number) {
-        Owner::At(owner) => Found::Number(owner),
-        Owner::Past => Found::Refused(Refusal::of(17)),
     }
 }

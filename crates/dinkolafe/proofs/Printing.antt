@@ -3,7 +3,7 @@ use mathlib.Core.List.{List}
 use Prim.Native.Nat.{ℕ, _+_, _-_, _≤_}
 use native.Mathlib.Omega.{arith}
 use lib.ListN.{length, take, drop, length-take, length-drop}
-use Rattle.sheet.specs.MeaningReading.{Reading}
+use Rattle.grammar.specs.MeaningReading.{Reading}
 use Rattle.lister.specs.MirrorRest.{AtCursor, GivesFirst}
 use Rattle.lister.specs.declared.Cursor.{Cursor}
 use Rattle.lister.specs.declared.Line.{Line}

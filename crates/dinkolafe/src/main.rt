@@ -2,8 +2,8 @@
 ghost use Prim.Native.Nat.{_+_, _≤_};
 ghost use lib.ListN.{length};
 ghost use Rattle.sheet.specs.Told.{toldReading};
+ghost use Rattle.listing.specs.MirrorLines.{most-line};
 ghost use Rattle.lister.specs.MirrorRest.{AtCursor};
-use constraints::WORK;
 use libc::STDIN_FILENO;
 use libc::STDOUT_FILENO;
 use lister::Cursor;
@@ -11,6 +11,7 @@ use lister::LINE;
 use lister::next_line;
 use lister::start;
 use sheet::Reading;
+use supertypes::WORK;
 
 // One byte more than a sheet may have: a full buffer is refused as too long.
 const BYTES: usize = 65536;
@@ -57,8 +58,8 @@ fn read_sheet(sheet: &mut [u8]) -> usize
 
 // Writes the lines out unless there is room for one more behind them; answers where the next one begins.
 fn written(out: &[u8], end: usize) -> usize
-    requires { ⌜ (end ≤ length (now out)) × (800 ≤ length (now out)) ⌝ }
-    ensures { λ r. ⌜ r + 800 ≤ length (now (out .entry)) ⌝ }
+    requires { ⌜ (end ≤ length (now out)) × (most-line ≤ length (now out)) ⌝ }
+    ensures { λ r. ⌜ r + most-line ≤ length (now (out .entry)) ⌝ }
 {
     if LINE <= out.len() - end {
         return end;
@@ -77,7 +78,7 @@ fn print_lines(
     out: &mut [u8],
 )
     requires { ⌜ AtCursor (toldReading reading) (now sheet) (now names) (now workspace) first ⌝ }
-    requires { ⌜ 800 ≤ length (now out) ⌝ }
+    requires { ⌜ most-line ≤ length (now out) ⌝ }
 {
     let mut cursor = first;
     let mut at = 0;

@@ -5,31 +5,33 @@ use mathlib.Core.List.{List}
 use mathlib.Core.Bool.{true}
 use lib.ListN.{length}
 use Rattle.refusal.specs.MeaningAnswer.{Answer, done}
-use Rattle.sheet.specs.MeaningReading.{Reading}
+use Rattle.grammar.specs.MeaningReading.{Reading}
 use Rattle.sheet.specs.declared.Judgement.{Judgement}
 use Rattle.sheet.specs.Told.{told}
 use Rattle.sheet.specs.Promises.{Promise-verdict}
 use Rattle.scope.specs.MeaningScope.{Path}
-use Rattle.scope.specs.MeaningQuery.{pathQuery, resolveQuery}
+use Rattle.query.specs.MeaningQuery.{pathQuery, resolveQuery}
 use Rattle.scope.specs.declared.Compared as scopes
-use Rattle.scope.specs.declared.Verdict.{Verdict}
-use Rattle.scope.specs.Promises.{Promise-order}
+use Rattle.query.specs.declared.Verdict.{Verdict}
+use Rattle.query.specs.Promises.{Promise-order}
 use Rattle.complex_entity.specs.MeaningParts.{Part}
 use Rattle.instantiables.specs.declared.Listed.{Listed}
 use Rattle.instantiables.specs.Told.{toldListed}
-use Rattle.algebra.specs.MeaningOperands.{readPart}
-use Rattle.algebra.specs.MeaningQuestions.{askNew, askSingle, Operator, Operand, askTwo, Several, askSeveral, both, part}
+use Rattle.operands.specs.MeaningOperands.{readPart, Operand, both, part}
+use Rattle.algebra.specs.MeaningQuestions.{askNew, askSingle, askTwo, askSeveral}
+use Rattle.operators.specs.MeaningOperators.{Operator, Several}
 use Rattle.algebra.specs.declared.Compared as parts
-use Rattle.algebra.specs.Promises as rows
+use Rattle.operands.specs.Promises as rows
 use Rattle.algebra.specs.Promises.{Promise-new, Promise-single, Promise-compare, Promise-two, Promise-several}
 use Rattle.expression.specs.declared.Numbered.{Numbered}
 use Rattle.expression.specs.Told.{toldNumber}
-use Rattle.namespace.specs.MeaningNamespace.{resolveOf, getOf, pathAt}
-use Rattle.namespace.specs.MeaningOrder.{schemasIn}
-use Rattle.namespace.specs.declared.Found.{Found}
-use Rattle.namespace.specs.Told.{toldFound, toldVerdict}
+use Rattle.declarations.specs.MeaningNamespace.{schemasIn, resolveOf, getOf, pathAt}
+use Rattle.declarations.specs.declared.Found.{Found}
+use Rattle.declarations.specs.Told.{toldFound}
+use Rattle.namespace.specs.Told.{toldVerdict}
 use Rattle.namespace.specs.Promises.{Asked, Promise-resolve, Promise-get, Promise-path}
-use Rattle.constraints.specs.MeaningQuestions.{enough, isSupertype, askList, askNumber, askRowInto, askSupertype}
+use Rattle.supertypes.specs.MeaningWorkspace.{enough}
+use Rattle.constraints.specs.MeaningQuestions.{isSupertype, askList, askNumber, askRowInto, askSupertype}
 use Rattle.constraints.specs.declared.Decision.{Decision}
 use Rattle.constraints.specs.Told.{toldDecision}
 use Rattle.constraints.specs.Promises.{Rows, Promise-supertype, Promise-list, Promise-number, Promise-row, Promise-kth}
@@ -37,11 +39,11 @@ use Rattle.type_ref.specs.MeaningTypes.{fromPath}
 use Rattle.type_ref.specs.declared.TypeRef.{TypeRef}
 use Rattle.type_ref.specs.Told.{toldTypeRef}
 use Rattle.type_ref.specs.Promises.{Promise-type}
-use Rattle.exports.specs.MeaningCode.{read, flag, sign, signOrNone, kind}
-use Rattle.exports.specs.Told.{judged, clear, decided, comparedParts, comparedScopes, typed}
-use Rattle.exports.specs.MirrorCode.{codeOf}
+use Rattle.codes.specs.MeaningCode.{read, flag, sign, signOrNone, kind}
+use Rattle.codes.specs.Told.{judged, clear, decided, comparedParts, comparedScopes, typed}
+use Rattle.codes.specs.MirrorCode.{codeOf}
 use Rattle.exports.specs.Promises.{Exported}
-use Rattle.exports.specs.declared.code.Code.{Code}
+use Rattle.codes.specs.declared.Code.{Code}
 use Rattle.exports.proofs.Marking as marking
 use Rattle.exports.proofs.Marking.{Marked, fine, says, map-marked, answers-marked}
 

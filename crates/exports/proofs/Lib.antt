@@ -1,6 +1,5 @@
--- No refusal has the number 0; laws of the answers, then of the names; the claims.
+-- No refusal has the number 0; laws of the names; the claims.
 pub mod Marking
 pub mod Keeping
-pub mod Coding
 pub mod Naming
 pub mod Proved

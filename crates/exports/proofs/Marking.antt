@@ -10,18 +10,20 @@ use lib.Dec.{leb, eqb}
 use Rattle.refusal.specs.MeaningAnswer.{Answer, done, refused, mapped, orElse, _>>=_}
 use Rattle.complex_entity.specs.MeaningParts.{Part, narrow, dedup, badAfter, unlessBad, newOf, last-index, single}
 use Rattle.complex_entity.specs.MeaningLists.{fits, add, bitand, sub, div, held, prefixes, andOf, andor, andorOf, oneof, oneofOf, most-factors}
-use Rattle.algebra.specs.MeaningOperands.{rowsIn, firstWrong, wanted, unlessWrong, readLists, readList, readPart}
+use Rattle.operands.specs.MeaningOperands.{rowsIn, firstWrong, wanted, unlessWrong, readLists, readList, readPart, both, Operand, a-list, a-part, read}
 use Rattle.algebra.specs.MeaningQuestions as rows
-use Rattle.algebra.specs.MeaningQuestions.{fitting, both, one, askNew, askSingle, askCompare, Operand, a-list, a-part, read, Operator, plus, times, minus, over, valueOf, askTwo, Several, one-of, every-of, some-of, valueOfAll, askSeveral}
-use Rattle.sheet.specs.MeaningReading.{Reading}
+use Rattle.operands.specs.MeaningResults.{fitting, one}
+use Rattle.algebra.specs.MeaningQuestions.{askNew, askSingle, askCompare, askTwo, askSeveral}
+use Rattle.operators.specs.MeaningOperators.{Operator, plus, times, minus, over, valueOf, Several, one-of, every-of, some-of, valueOfAll}
+use Rattle.grammar.specs.MeaningReading.{Reading}
 use Rattle.sheet.specs.MeaningSheet.{Open, Stood, Wrong, Fault, Is}
 use Rattle.sheet.specs.MeaningSheet.Wrong.{passes, badTag, badSimple, full, missing, badName, limit, depth, forbidden}
 use Rattle.sheet.specs.MeaningSheet.Fault.{long, wrong}
-use Rattle.scope.specs.MeaningScope.{Step as ScopeStep, ScopeType, Scope, Path, samePath, most-steps, compared}
-use Rattle.scope.specs.MeaningQuery.{stop, stepsAt, wordAt, scopeQuery, pathFrom, pathOf, pathQuery, asked, resolveQuery, orderOf, Question}
+use Rattle.scope.specs.MeaningScope.{Step as ScopeStep, ScopeType, Scope, Path, samePath, most-steps, compared, stop}
+use Rattle.query.specs.MeaningQuery.{stepsAt, wordAt, scopeQuery, pathFrom, pathOf, pathQuery, asked, resolveQuery, orderOf, Question}
 use Rattle.sheet.specs.MeaningName.{Name}
-use Rattle.sheet.proofs.Choosing.{clash}
-use Rattle.sheet.specs.MeaningGrammar.{most-bytes}
+use Rattle.grammar.proofs.Choosing.{clash}
+use Rattle.grammar.specs.MeaningGrammar.{most-bytes}
 use Rattle.schemas.specs.MeaningSchemas.{Body, Schema, Entity, Constraint}
 use Rattle.expression.specs.MeaningExpression.{Expr, Terms, eval, values}
 use Rattle.expression.specs.MeaningExpression.Expr.{reference}
@@ -29,12 +31,14 @@ use Rattle.expression.specs.MeaningExpression.Terms.{end, _then_}
 use Rattle.expression.specs.MeaningNumbers.{placeIn, or17, numberOf, setAt}
 use Rattle.merging.specs.MeaningMerging.{Combined, Pair, find, merged, vacant, entered, withSubtypes}
 use Rattle.merging.specs.MeaningNumbering.{mapExpr}
-use Rattle.gathering.specs.MeaningGathering.{through, ruleOf, supersOf, resolvedExpr, resolvedTerms, ruled, stepB, constrained, stepD, subtype, stepC, gather}
-use Rattle.gathering.specs.MeaningCombined.{pathFor, ownPath, supertypes, combined, numberFor, numberedExpr, listOf}
-use Rattle.type_ref.specs.MeaningTypes.{Step, ends, goes, bodyStep, namedStep, stepFrom, Walks, byKind, fromPath}
-use Rattle.type_ref.specs.MeaningTypes.Walks.{ended, failed, again}
+use Rattle.records.specs.MeaningResolving.{ruleOf, resolvedExpr, resolvedTerms, pathFor, ownPath, numberFor}
+use Rattle.gathering.specs.MeaningGathering.{through, supersOf, ruled, stepB, constrained, stepD, subtype, stepC, gather}
+use Rattle.gathering.specs.MeaningCombined.{supertypes, combined, numberedExpr, listOf}
+use Rattle.named_types.specs.MeaningWalk.{Step, ends, goes, bodyStep, namedStep, stepFrom, Walks}
+use Rattle.type_ref.specs.MeaningTypes.{byKind, fromPath}
+use Rattle.named_types.specs.MeaningWalk.Walks.{ended, failed, again}
 use Rattle.constraints.specs.MeaningQuestions.{isSome, isSupertype, askList, askNumber, askRow, askRowInto, askSupertype}
-use Rattle.namespace.specs.MeaningNamespace.{Named, a-type, an-entity, Declaration, scopeIn, declarations, declarationFor, resolved, answered, resolveOf, getOf, pathAt}
+use Rattle.declarations.specs.MeaningNamespace.{Named, a-type, an-entity, Declaration, scopeIn, declarations, declarationFor, resolved, answered, resolveOf, getOf, pathAt}
 use Rattle.namespace.specs.MeaningOrder.{Answers, inOrder}
 
 -- a refusal has a number, written one less

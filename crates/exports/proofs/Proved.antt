@@ -4,24 +4,23 @@ use mathlib.Core.Path.{_≡_, refl, sym, ap, _∙_}
 use mathlib.Core.List.{List}
 use mathlib.Core.Bool.{true}
 use Rattle.refusal.specs.MeaningAnswer.{Answer, done, mapped}
-use Rattle.sheet.specs.MeaningReading.Reading.{rust}
+use Rattle.grammar.specs.MeaningReading.Reading.{rust}
 use Rattle.instantiables.specs.Told.{toldListed}
 use Rattle.expression.specs.Told.{toldNumber}
-use Rattle.namespace.specs.MeaningNamespace.{pathAt}
-use Rattle.namespace.specs.MeaningOrder.{schemasIn}
-use Rattle.namespace.specs.Told.{toldFound}
+use Rattle.declarations.specs.MeaningNamespace.{schemasIn, pathAt}
+use Rattle.declarations.specs.Told.{toldFound}
 use Rattle.namespace.specs.Promises.{Asked}
 use Rattle.algebra.proofs.Proved.{new-once, single-once, compare-once, two-once, several-once}
-use Rattle.sheet.proofs.Choosing.{clash}
+use Rattle.grammar.proofs.Choosing.{clash}
 use Rattle.sheet.proofs.Proved.{verdict-once}
-use Rattle.scope.proofs.Proved.{order-once}
+use Rattle.query.proofs.Proved.{order-once}
 use Rattle.namespace.proofs.Clearing.{answers-once}
 use Rattle.namespace.proofs.Proved.{resolve-once, get-once, path-once}
 use Rattle.constraints.proofs.Proved.{supertype-once, list-once, row-once, number-once, kth-once}
 use Rattle.type_ref.proofs.Proved.{type-once}
-use Rattle.exports.specs.MeaningCode.{read}
+use Rattle.codes.specs.MeaningCode.{read}
 use Rattle.exports.specs.MeaningNames.{endOf}
-use Rattle.exports.specs.Told.{judged, clear, decided, comparedParts, comparedScopes, typed}
+use Rattle.codes.specs.Told.{judged, clear, decided, comparedParts, comparedScopes, typed}
 use Rattle.exports.specs.Promises.{Exported, Exported-name}
 use Rattle.exports.specs.Claims.{Once, OnceAlone, ExportedOnce, NameOnce}
 

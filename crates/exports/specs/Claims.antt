@@ -3,19 +3,20 @@ use Prim.Native.Nat.{ℕ}
 use mathlib.Core.Path.{_≡_}
 use mathlib.Core.List.{List}
 use Rattle.refusal.specs.MeaningAnswer.{Answer}
-use Rattle.sheet.specs.MeaningReading.Reading.{rust}
+use Rattle.grammar.specs.MeaningReading.Reading.{rust}
 use Rattle.scope.specs.MeaningScope.{Path}
 use Rattle.instantiables.specs.Told.{toldListed}
 use Rattle.expression.specs.Told.{toldNumber}
-use Rattle.namespace.specs.Told.{toldFound}
-use Rattle.algebra.specs.MeaningQuestions.{Operator, Operand, Several}
+use Rattle.declarations.specs.Told.{toldFound}
+use Rattle.operators.specs.MeaningOperators.{Operator, Several}
+use Rattle.operands.specs.MeaningOperands.{Operand}
 use Rattle.algebra.specs.Promises.{Promise-new, Promise-single, Promise-compare, Promise-two, Promise-several}
 use Rattle.sheet.specs.Promises.{Promise-verdict}
-use Rattle.scope.specs.Promises.{Promise-order}
+use Rattle.query.specs.Promises.{Promise-order}
 use Rattle.namespace.specs.Promises.{Promise-resolve, Promise-get, Promise-path}
 use Rattle.constraints.specs.Promises.{Promise-supertype, Promise-list, Promise-number, Promise-row, Promise-kth}
 use Rattle.type_ref.specs.Promises.{Promise-type}
-use Rattle.exports.specs.Told.{judged, clear, decided, comparedParts, comparedScopes, typed}
+use Rattle.codes.specs.Told.{judged, clear, decided, comparedParts, comparedScopes, typed}
 use Rattle.exports.specs.Promises.{Exported, Exported-name}
 
 -- one call allows one outcome: number, value, and the end state of what is lent besides

@@ -1,7 +1,5 @@
--- Meanings, then what C is told, mirrors, promises and claims.
-pub mod MeaningCode
+-- The meaning of places, then promises and claims.
 pub mod MeaningNames
-pub mod Told
-pub mod MirrorCode
+pub mod MirrorNames
 pub mod Promises
 pub mod Claims

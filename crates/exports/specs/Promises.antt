@@ -4,10 +4,10 @@ use mathlib.Core.Path.{_≡_}
 use mathlib.Core.List.{List}
 use lib.ListN.{take, drop}
 use Rattle.refusal.specs.MeaningAnswer.{Answer, mapped}
-use Rattle.sheet.specs.MeaningReading.Reading.{rust}
+use Rattle.grammar.specs.MeaningReading.Reading.{rust}
 use Rattle.scope.specs.MeaningScope.{Path}
 use Rattle.namespace.specs.Promises.{Asked, Promise-part}
-use Rattle.exports.specs.MeaningCode.{read}
+use Rattle.codes.specs.MeaningCode.{read}
 use Rattle.exports.specs.MeaningNames.{endOf}
 
 -- what C reads is what an answer tells that keeps the question's own promise

@@ -1,15 +1,12 @@
 // `schema_name` and `item_name`: C gets the start and the stop of the part of the sheet.
 ghost use mathlib.Core.Path.{_≡_};
-ghost use Rattle.namespace.specs.MeaningNamespace.{schemaName, itemName};
+ghost use Rattle.declarations.specs.MeaningNamespace.{schemaName, itemName};
 ghost use Rattle.exports.specs.MeaningNames.{schemaPlace, itemPlace};
+ghost use Rattle.exports.specs.MirrorNames.{spotOf};
 ghost use Rattle.exports.specs.Promises.{Exported-name};
-use lookup::Span;
-use lookup::name_of;
-use namespace::Declared;
-use namespace::cleared;
-use namespace::declaration;
-use refusal::Refusal;
-use scope::Verdict;
+use namespace::NamePlace;
+use namespace::PathName;
+use namespace::name_place;
 use sheet::Reading;
 
 // A refusal's number and place, and 0; or 0, and where the name stands.
@@ -19,64 +16,33 @@ pub struct Spot {
     pub stop: u64,
 }
 
-fn at(name: Span) -> Spot
-    ensures { λ r. ⌜ r ≡ record { number = 0; start = name .start; stop = name .stop } ⌝ }
+fn spot_of(place: NamePlace) -> Spot
+    ensures { λ r. ⌜ r ≡ spotOf place ⌝ }
 {
-    Spot {
-        number: 0,
-        start: name.start as u64,
-        stop: name.stop as u64,
-    }
-}
-
-fn nowhere(why: Refusal) -> Spot
-    ensures { λ r. ⌜ r ≡ record { number = why .number; start = why .place; stop = 0 } ⌝ }
-{
-    Spot {
-        number: why.number,
-        start: why.place as u64,
-        stop: 0,
+    match place {
+        NamePlace::At(name) => Spot {
+            number: 0,
+            start: name.start as u64,
+            stop: name.stop as u64,
+        },
+        NamePlace::Refused(why) => Spot {
+            number: why.number,
+            start: why.place as u64,
+            stop: 0,
+        },
     }
 }
 
 fn schema_spot(sheet: &[u8], index: u16) -> Spot
     ensures { λ r. ⌜ Exported-name schemaName schemaPlace (now (sheet .entry)) index (r .number) (r .start) (r .stop) ⌝ }
 {
-    let clear = cleared(Reading::Rust, sheet, true, Verdict::Done);
-    if let Verdict::Refused(why) = clear {
-        return nowhere(why);
-    }
-    let Declared::At {
-        schema_start,
-        schema_stop,
-        tag: _,
-        start: _,
-        stop: _,
-    } = declaration(sheet, index as usize)
-    else {
-        return nowhere(Refusal::of(15));
-    };
-    at(name_of(sheet, schema_start, schema_stop))
+    spot_of(name_place(Reading::Rust, sheet, index, PathName::Schema))
 }
 
 fn item_spot(sheet: &[u8], index: u16) -> Spot
     ensures { λ r. ⌜ Exported-name itemName itemPlace (now (sheet .entry)) index (r .number) (r .start) (r .stop) ⌝ }
 {
-    let clear = cleared(Reading::Rust, sheet, true, Verdict::Done);
-    if let Verdict::Refused(why) = clear {
-        return nowhere(why);
-    }
-    let Declared::At {
-        schema_start: _,
-        schema_stop: _,
-        tag: _,
-        start,
-        stop,
-    } = declaration(sheet, index as usize)
-    else {
-        return nowhere(Refusal::of(15));
-    };
-    at(name_of(sheet, start, stop))
+    spot_of(name_place(Reading::Rust, sheet, index, PathName::Item))
 }
 
 #[no_mangle]

@@ -1,11 +1,12 @@
 // The questions on rows.
 ghost use Rattle.instantiables.specs.Told.{toldListed};
-ghost use Rattle.algebra.specs.MeaningQuestions.{plus, times, minus, over, a-list, a-part, one-of, every-of, some-of};
+ghost use Rattle.operators.specs.MeaningOperators.{plus, times, minus, over, one-of, every-of, some-of};
+ghost use Rattle.operands.specs.MeaningOperands.{a-list, a-part};
 ghost use Rattle.algebra.specs.Promises.{Promise-new, Promise-single, Promise-compare, Promise-two, Promise-several};
-ghost use Rattle.exports.specs.Told.{comparedParts};
+ghost use Rattle.codes.specs.Told.{comparedParts};
 ghost use Rattle.exports.specs.Promises.{Exported};
-use crate::code::of_listed;
-use crate::code::of_parts;
+use codes::of_listed;
+use codes::of_parts;
 
 // ---- parts
 

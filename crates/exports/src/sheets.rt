@@ -1,15 +1,15 @@
 // The questions on sheets and queries that borrow no workspace.
-ghost use Rattle.sheet.specs.MeaningReading.Reading.{rust};
+ghost use Rattle.grammar.specs.MeaningReading.Reading.{rust};
 ghost use Rattle.sheet.specs.Promises.{Promise-verdict};
-ghost use Rattle.scope.specs.Promises.{Promise-order};
-ghost use Rattle.namespace.specs.Told.{toldFound};
+ghost use Rattle.query.specs.Promises.{Promise-order};
+ghost use Rattle.declarations.specs.Told.{toldFound};
 ghost use Rattle.namespace.specs.Promises.{Promise-resolve, Promise-get, Promise-path};
-ghost use Rattle.exports.specs.Told.{judged, clear, comparedScopes};
+ghost use Rattle.codes.specs.Told.{judged, clear, comparedScopes};
 ghost use Rattle.exports.specs.Promises.{Exported};
-use crate::code::of_found;
-use crate::code::of_judgement;
-use crate::code::of_scopes;
-use crate::code::of_verdict;
+use codes::of_found;
+use codes::of_judgement;
+use codes::of_scopes;
+use codes::of_verdict;
 
 #[no_mangle]
 pub extern "C" fn dinkolafe_verdict(sheet: &[u8], value: &mut u64) -> u8
@@ -24,7 +24,7 @@ pub extern "C" fn dinkolafe_verdict(sheet: &[u8], value: &mut u64) -> u8
 pub extern "C" fn dinkolafe_order(left: &[u8], right: &[u8], value: &mut u64) -> u8
     ensures { λ r. ⌜ Exported comparedScopes (λ a. Promise-order rust (now (left .entry)) (now (right .entry)) a) r (now (value .exit)) ⌝ }
 {
-    let code = of_scopes(scope::order(left, right));
+    let code = of_scopes(query::order(left, right));
     *value = code.value;
     code.number
 }

@@ -1,15 +1,14 @@
 -- The list of an expression has exactly the sets that can be built from it, and rises strictly.
-use mathlib.Core.Path.{_≡_, refl, sym, _∙_, ap}
+use mathlib.Core.Path.{_≡_, refl, _∙_, ap}
 use mathlib.Core.Logic.{_⊎_, inl, inr, _↔_}
 use mathlib.Core.List.{List, [], _∷_, map}
-use mathlib.Core.Bool.{Bool, true, false}
-use Prim.Native.Nat.{ℕ, compare}
+use Prim.Native.Nat.{ℕ}
 use native.Mathlib.Omega.{arith}
-use Rattle.refusal.specs.MeaningAnswer.{Answer, done, refused, orElse, _>>=_}
+use Rattle.refusal.specs.MeaningAnswer.{Answer, done, refused, _>>=_}
 use Rattle.complex_entity.specs.MeaningSets.{_∈_, here, there, Rising, empty, next}
 use Rattle.complex_entity.specs.MeaningParts.{Part, order, join}
 use Rattle.complex_entity.specs.MeaningLists as lists
-use Rattle.complex_entity.specs.MeaningLists.{oneofOf, andOf, andorOf}
+use Rattle.complex_entity.specs.MeaningLists.{oneofOf, andOf}
 use Rattle.complex_entity.specs.Claims.{One, Every, Some}
 use Rattle.complex_entity.specs.Claims as sets
 use Rattle.complex_entity.proofs.Sets.{not-in-nil, ext, tidy-rising}
@@ -17,13 +16,14 @@ use Rattle.complex_entity.proofs.Orders.{nat-order, part-order}
 use Rattle.complex_entity.proofs.Members.{join-old, join-new, join-rising}
 use Rattle.complex_entity.proofs.Choices.{oneof-old, oneof-new, oneof-rising, and-old, and-new, andor-old, andor-new}
 use Rattle.complex_entity.proofs.Proved.{held-is, and-is, andor-is}
-use Rattle.expression.specs.MeaningExpression.{Expr, reference, andor, «and», oneof, Terms, end, _then_, Joins, Builds, a-name, by-oneof, by-and, by-andor, BuildsOne, this, later, BuildsEvery, last, with-rest, BuildsSome, only, without, with-it, eval, values}
+use Rattle.expression.specs.MeaningExpression.{Expr, reference, andor, «and», oneof, Terms, end, _then_, eval, values}
+use Rattle.expression.specs.MeaningBuilds.{Joins, Builds, a-name, by-oneof, by-and, by-andor, BuildsOne, this, later, BuildsEvery, last, with-rest, BuildsSome, only, without, with-it}
 
 -- ---- a join by its names is the join
-pub joins-is : {p q r : Part} → Joins p q r → r ≡ join p q
+joins-is : {p q r : Part} → Joins p q r → r ≡ join p q
 joins-is {p} {q} {r} j = ext nat-order (j .set) (join-rising p q) (λ n m. join-new p q ((j .names n) .0 m)) (λ n m. (j .names n) .1 (join-old p q m))
 
-pub is-joins : {p q r : Part} → r ≡ join p q → Joins p q r
+is-joins : {p q r : Part} → r ≡ join p q → Joins p q r
 is-joins {p} {q} e = rw e (record { set = join-rising p q; names = λ n. (join-old p q, join-new p q) })
 
 -- ---- what came from below
@@ -32,7 +32,7 @@ bind-done (done a) h = (a, refl, h)
 bind-done (refused n k) h = let z : _≡_ {A = ℕ} 0 1 = cc in absurd (omega arith)
 
 -- the values of terms, one by one
-pub first-and-rest : (e : Expr ℕ) (t : Terms ℕ) {Ls : List (List Part)} → values (e then t) ≡ done Ls
+first-and-rest : (e : Expr ℕ) (t : Terms ℕ) {Ls : List (List Part)} → values (e then t) ≡ done Ls
     → (L : List Part) × (Ks : List (List Part)) × (eval e ≡ done L) × (values t ≡ done Ks) × (Ls ≡ L ∷ Ks)
 unfolding values
 first-and-rest e t h =

@@ -3,7 +3,4 @@ pub mod Places
 pub mod Proved
 pub mod Spans
 pub mod Occurrence
-pub mod Folds
-pub mod Taking
-pub mod Walking
 pub mod Numbers

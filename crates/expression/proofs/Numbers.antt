@@ -17,10 +17,10 @@ use Rattle.complex_entity.specs.MirrorParts.{by, partOf, partAt, madeOf}
 use Rattle.complex_entity.specs.declared.PartialComplexEntity.{PartialComplexEntity}
 use Rattle.complex_entity.specs.declared.Verdict.the-variants.{Done, Refused as Unmade}
 use Rattle.complex_entity.proofs.Orders.{part-order}
-use Rattle.instantiables.specs.declared.Spot.{Spot}
-use Rattle.instantiables.specs.declared.Spot.the-variants.{Found, Gap}
-use Rattle.instantiables.specs.MirrorRows.{partsAt, Stands}
-use Rattle.instantiables.specs.MirrorLists.{further, placeOf}
+use Rattle.rows.specs.declared.Spot.{Spot}
+use Rattle.rows.specs.declared.Spot.the-variants.{Found, Gap}
+use Rattle.rows.specs.MirrorRows.{partsAt, Stands}
+use Rattle.rows.specs.MirrorLists.{further, placeOf}
 use Rattle.expression.specs.MeaningNumbers.{placeIn, or17, numberOf, setAt}
 
 -- ---- row to number

@@ -1,6 +1,6 @@
 -- A scan over the nodes of an expression finds exactly the indices that occur in it; and what one turn of the scan sees.
 use mathlib.Core.Path.{_≡_, refl, sym, _∙_}
-use mathlib.Core.Bool.{Bool, true, false, _&&_, _||_}
+use mathlib.Core.Bool.{Bool, true, false, _&&_, _||_, or-assoc, or-false}
 use mathlib.Core.List.{List, [], _∷_, _++_, append-assoc, append-nil}
 use Prim.Native.Nat.{ℕ, suc, _+_, _-_, _≤_, _<_}
 use native.Mathlib.Numerals.{add-one, add-two, add-three}
@@ -11,14 +11,6 @@ use lib.Seq.{drop-cons, sets-eq}
 use borrow.Author.Tests.{eq-eqb, ne-eqb}
 use Rattle.expression.specs.MeaningExpression.{Expr, reference, andor, «and», oneof, Terms, end, _then_, isIn, isInSome}
 use Rattle.expression.specs.MirrorNodes.{flat, flats, scan}
-
-or-assoc : (a b c : Bool) → (a || b) || c ≡ a || (b || c)
-or-assoc true b c = refl
-or-assoc false b c = refl
-
-or-false : (a : Bool) → a || false ≡ a
-or-false true = refl
-or-false false = refl
 
 mutual
   unfolding scan isIn flat
@@ -37,10 +29,6 @@ mutual
 pub scan-flat : (i : ℕ) (e : Expr ℕ) → scan i (flat e) ≡ isIn eqb i e
 unfolding scan
 scan-flat i e = rw (← append-nil (flat e)) (scan-node i e [] ∙ or-false (isIn eqb i e))
-
-pub scan-flats : (i : ℕ) (t : Terms ℕ) → scan i (flats t) ≡ isInSome eqb i t
-unfolding scan
-scan-flats i t = rw (← append-nil (flats t)) (scan-terms i t [] ∙ or-false (isInSome eqb i t))
 
 -- ---- the loop: what is left from `at` decides
 three : (l : List ℕ) (n : ℕ) → n + 3 ≤ length l → drop n l ≡ getD l n 0 ∷ getD l (n + 1) 0 ∷ getD l (n + 2) 0 ∷ drop (n + 3) l

@@ -1,6 +1,5 @@
 -- A set's place in a strictly rising list is its number: both ways.
-use mathlib.Core.Path.{_≡_, refl, sym, _∙_, ap}
-use mathlib.Core.Logic.{_↔_}
+use mathlib.Core.Path.{_≡_, refl, sym, ap}
 use mathlib.Core.List.{List, [], _∷_}
 use mathlib.Core.Bool.{Bool, true, false, cond}
 use mathlib.Core.Option.{Option, none, some}
@@ -10,11 +9,10 @@ use native.Mathlib.Nat.{not-suc-le-zero, le-of-suc-le-suc}
 use native.Mathlib.Decide.{decLt}
 use lib.ListN.{length, getElem?}
 use lib.Dec.{T}
-use Rattle.refusal.specs.MeaningAnswer.{Answer, done, refused}
-use Rattle.complex_entity.specs.MeaningSets.{_∈_, here, there, Lt, Below, Rising, empty, next}
+use Rattle.refusal.specs.MeaningAnswer.{done, refused}
+use Rattle.complex_entity.specs.MeaningSets.{_∈_, here, there, Lt, Rising, empty, next}
 use Rattle.complex_entity.specs.MeaningParts.{Part, order, moved}
 use Rattle.complex_entity.specs.MeaningLists.{equal}
-use Rattle.complex_entity.proofs.Sets.{not-in-nil}
 use Rattle.complex_entity.proofs.Orders.{part-order}
 use Rattle.complex_entity.proofs.Keeping.{equal-out, equal-in}
 use Rattle.expression.specs.MeaningNumbers.{placeIn, or17, numberOf, setAt}

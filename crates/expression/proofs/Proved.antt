@@ -1,15 +1,14 @@
 -- Every claim holds.
-use mathlib.Core.Path.{_≡_, refl, sym, _∙_}
-use mathlib.Core.List.{List, flatMap, flatten}
+use mathlib.Core.Path.{_≡_, refl}
+use mathlib.Core.List.{flatMap, flatten}
 use Prim.Native.Nat.{ℕ, _<_}
 use lib.ListN.{length}
 use native.Mathlib.Omega.{arith}
 use Rattle.refusal.specs.MeaningAnswer.{done, refused}
-use Rattle.complex_entity.specs.MeaningParts.{Part}
 use Rattle.complex_entity.specs.MeaningLists.{held, prefixes, andOf, andorOf, oneofOf}
-use Rattle.expression.specs.MeaningExpression.{Expr, Builds, eval, andorMut}
+use Rattle.expression.specs.MeaningExpression.{eval, factors, andorMut}
 use Rattle.expression.specs.MeaningNumbers.{numberOf}
-use Rattle.expression.specs.Claims.{Numbered, ListsBuilds, Demand3, Unnumbered, Starred}
+use Rattle.expression.specs.Claims.{ListsBuilds, Demand3, Unnumbered, Starred}
 use Rattle.expression.proofs.Building.{builds-list, list-rising}
 use Rattle.expression.proofs.Places.{number→set, set→number, set-in, set-below, in-set, set-full, set-past, set-rising, rising-set, no-number}
 
@@ -36,5 +35,5 @@ unnumbered e L h q = (λ f. no-number L q (λ m. f ((builds-list e L h q) .0 m))
     clash-at n r = let z : _≡_ {A = ℕ} 0 1 = cc (r .2) in omega arith
 
 pub starred-hold : Starred
-unfolding eval andorMut flatMap flatten held prefixes andOf andorOf oneofOf
+unfolding eval factors andorMut flatMap flatten held prefixes andOf andorOf oneofOf
 starred-hold = refl

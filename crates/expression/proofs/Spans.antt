@@ -1,9 +1,10 @@
 -- The numbers of an expression: how many they are, how terms are put together, and that they determine the expression.
 use mathlib.Core.Path.{_≡_, refl, sym, ap, _∙_}
 use mathlib.Core.List.{List, [], _∷_, _++_, append-assoc}
-use Prim.Native.Nat.{ℕ, suc, _+_, _≤_, max}
+use Prim.Native.Nat.{ℕ, suc, _+_, _<_, _≤_, max}
 use native.Mathlib.Omega.{arith}
-use lib.ListN.{length, length-append}
+use lib.ListN.{length, take, set, getD, length-append}
+use lib.Seq.{take-set-lt, set-at}
 use Rattle.expression.specs.MeaningExpression.{Expr, reference, andor, «and», oneof, Terms, end, _then_, append}
 use Rattle.expression.specs.MirrorNodes.{flat, flats, height, heights}
 
@@ -14,6 +15,14 @@ flat-long (reference n) = omega arith
 flat-long (andor t) = omega arith
 flat-long («and» t) = omega arith
 flat-long (oneof t) = omega arith
+
+-- a node's third number says how many they are
+pub span-at : (e : Expr ℕ) (r : List ℕ) → getD (flat e ++ r) 2 0 ≡ length (flat e)
+unfolding flat
+span-at (reference n) r = refl
+span-at (andor t) r = refl
+span-at («and» t) r = refl
+span-at (oneof t) r = refl
 
 -- ---- terms, and more terms after them
 pub flats-append : (t u : Terms ℕ) → flats (append t u) ≡ flats t ++ flats u
@@ -40,7 +49,7 @@ below k j l m r s e = (cc, cc)
 mutual
   unfolding flat
 
-  flat-one : (x y : Expr ℕ) (r s : List ℕ) → flat x ++ r ≡ flat y ++ s → (x ≡ y) × (r ≡ s)
+  pub flat-one : (x y : Expr ℕ) (r s : List ℕ) → flat x ++ r ≡ flat y ++ s → (x ≡ y) × (r ≡ s)
   flat-one (reference n) (reference m) r s e =
       let t = other-numbers _ _ _ _ e in
       (ap reference (first-number _ _ _ _ t), other-numbers _ _ _ _ (other-numbers _ _ _ _ t))
@@ -71,8 +80,13 @@ mutual
       let j = flats-one t u r s (omega (arith, length-append (flat x) (flats t), length-append (flat y) (flats u))) (i .1) in
       (cc (i .0, j .0), j .1)
 
-pub flat-injective : (x y : Expr ℕ) → flat x ≡ flat y → x ≡ y
-flat-injective x y e = flat-one x y [] [] (ap (λ (l : List ℕ). l ++ []) e) .0
-
 pub flats-injective : (t u : Terms ℕ) → flats t ≡ flats u → t ≡ u
 flats-injective t u e = flats-one t u [] [] (ap length e) (ap (λ (l : List ℕ). l ++ []) e) .0
+
+-- how many numbers a node takes is put in once its terms stand behind it
+pub patched : (w p x : List ℕ) (u m a b c v : ℕ) → length p ≡ u → u + 3 ≤ m → take m w ≡ (p ++ (a ∷ b ∷ c ∷ [])) ++ x → take m (set w (u + 2) v) ≡ p ++ (a ∷ b ∷ v ∷ x)
+patched w p x u m a b c v h g e =
+    let i : u + 2 < m = omega arith in
+    let n : length (p ++ (a ∷ b ∷ [])) ≡ u + 2 = length-append p (a ∷ b ∷ []) ∙ omega arith in
+    let f : (p ++ (a ∷ b ∷ c ∷ [])) ++ x ≡ (p ++ (a ∷ b ∷ [])) ++ (c ∷ x) = append-assoc p (a ∷ b ∷ c ∷ []) x ∙ sym (append-assoc p (a ∷ b ∷ []) (c ∷ x)) in
+    take-set-lt m w (u + 2) v i ∙ ap (λ (l : List ℕ). set l (u + 2) v) (e ∙ f) ∙ set-at (p ++ (a ∷ b ∷ [])) c x v (u + 2) n ∙ append-assoc p (a ∷ b ∷ []) (v ∷ x)

@@ -7,7 +7,8 @@ use lib.ListN.{length}
 use Rattle.refusal.specs.MeaningAnswer.{done, refused}
 use Rattle.complex_entity.specs.MeaningSets.{_∈_, Lt, Rising}
 use Rattle.complex_entity.specs.MeaningParts.{Part, order}
-use Rattle.expression.specs.MeaningExpression.{Expr, Builds, eval}
+use Rattle.expression.specs.MeaningExpression.{Expr, eval}
+use Rattle.expression.specs.MeaningBuilds.{Builds}
 use Rattle.expression.specs.MeaningNumbers.{numberOf, setAt}
 use Rattle.expression.specs.MeaningExamples.{Example, answer, starred}
 

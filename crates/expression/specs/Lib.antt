@@ -1,7 +1,7 @@
 pub mod MeaningExpression
+pub mod MeaningBuilds
 pub mod MeaningNumbers
 pub mod MeaningExamples
 pub mod MirrorNodes
-pub mod MirrorValues
 pub mod Told
 pub mod Claims

@@ -1,8 +1,8 @@
 -- Numbers of sets: a set's number is its place in the list, from 0.
 use mathlib.Core.List.{List, [], _∷_}
-use mathlib.Core.Bool.{Bool, cond}
+use mathlib.Core.Bool.{cond}
 use mathlib.Core.Option.{Option, none, some}
-use Prim.Native.Nat.{ℕ, suc}
+use Prim.Native.Nat.{ℕ}
 use lib.ListN.{getElem?}
 use Rattle.refusal.specs.MeaningAnswer.{Answer, done, refused}
 use Rattle.complex_entity.specs.MeaningParts.{Part, moved}

@@ -1,27 +1,21 @@
 // after espr/src/ir/constraints.rs of ruststep cd89e5a7cd, Apache-2.0; changed
 //
-// Expressions: nodes in lent memory, what occurs in one, its list, and the numbers of the list's sets.
+// Expressions: nodes in lent memory, what occurs in one, and the numbers of a list's sets.
 ghost use mathlib.Core.Path.{_≡_};
 ghost use mathlib.Core.List.{[], _∷_, _++_};
-ghost use Prim.Native.Nat.{ℕ, _+_, _*_, _≤_};
+ghost use Prim.Native.Nat.{_+_, _*_, _≤_};
 ghost use lib.ListN.{length, take, drop};
 ghost use Rattle.complex_entity.specs.MirrorParts.{namesOf, madeOf};
-ghost use Rattle.instantiables.specs.MirrorRows.{partsAt, Stands, Sets};
-ghost use Rattle.instantiables.specs.Told.{toldListed};
-ghost use Rattle.expression.specs.MeaningExpression.{Expr, Terms, eval};
+ghost use Rattle.rows.specs.MirrorRows.{partsAt, Stands};
 ghost use Rattle.expression.specs.MeaningNumbers.{numberOf, setAt};
-ghost use Rattle.expression.specs.MirrorNodes.{flat, flats, Node, Nodes, scan};
-ghost use Rattle.expression.specs.MirrorValues.{Valuing, listAt, Ready, kindOf, nodeOf, withTerm, refusalOf, unless};
-ghost use Rattle.expression.specs.Told.{toldValued, toldNumber};
+ghost use Rattle.expression.specs.MirrorNodes.{scan};
+ghost use Rattle.expression.specs.Told.{toldNumber};
 use complex_entity::Made;
 use complex_entity::PartialComplexEntity;
 use complex_entity::Verdict;
-use instantiables::Instantiables;
-use instantiables::Listed;
-use instantiables::Spot;
-use instantiables::copy;
-use instantiables::place;
 use refusal::Refusal;
+use rows::Spot;
+use rows::place;
 
 // A list that was valued: so many rows.
 pub struct Value {
@@ -48,9 +42,6 @@ pub const ANDOR: u16 = 1;
 pub const AND: u16 = 2;
 
 pub const ONEOF: u16 = 3;
-
-// The depth that evaluation starts with: two calls for each of 6 levels, which no combined expression passes.
-pub const DEPTH: usize = 12;
 
 // A node goes behind those that stand at the front; how many numbers stand there then.
 pub fn put_node(nodes: &mut [u16], used: usize, kind: u16, value: u16, span: u16) -> usize
@@ -79,128 +70,6 @@ pub fn is_in(nodes: &[u16], index: u16) -> bool
         }
     }
     false
-}
-
-// The list of the expression that stands in `nodes`, at the front of `rows`; `factor` and `old` are scratches.
-// The depth falls at each call, and a level takes two: one for the node, one for its terms. A level has room for a list, half of it for each call.
-pub fn eval_node(
-    nodes: &[u16],
-    rows: &mut [u16],
-    factor: &mut [u16],
-    old: &mut [u16],
-    depth: usize,
-) -> Valued
-    requires { ⌜ Node (now nodes) depth ⌝ }
-    requires { ⌜ (832 * depth ≤ length (now rows)) × (1664 ≤ length (now factor)) × (1664 ≤ length (now old)) ⌝ }
-    ensures { λ r. ⌜ ((e : Expr ℕ) → now (nodes .entry) ≡ flat e → Valuing (eval e) (now (rows .exit)) (toldValued r)) ⌝ }
-{
-    let kind = nodes[0];
-    if kind == REFERENCE {
-        let list = Instantiables::single(rows, nodes[1]);
-        return Valued::Is(Value { count: list.count });
-    }
-    eval_terms(kind, &nodes[NODE..], rows, factor, old, depth - 1)
-}
-
-// The list of a node of this kind whose terms stand in `terms`. Its own list stands at the front of `rows`, the terms' lists are valued above it.
-// A limit that is passed does not end the walk, since a refusal of a later term comes first.
-pub fn eval_terms(
-    kind: u16,
-    terms: &[u16],
-    rows: &mut [u16],
-    factor: &mut [u16],
-    old: &mut [u16],
-    depth: usize,
-) -> Valued
-    requires { ⌜ Nodes (now terms) depth ⌝ }
-    requires { ⌜ (832 * (depth + 1) ≤ length (now rows)) × (1664 ≤ length (now factor)) × (1664 ≤ length (now old)) ⌝ }
-    ensures { λ r. ⌜ ((t : Terms ℕ) → now (terms .entry) ≡ flats t → Valuing (nodeOf kind t) (now (rows .exit)) (toldValued r)) ⌝ }
-{
-    let mut list = Listed::Rows(Instantiables::empty());
-    let mut n = 0;
-    let mut at = 0;
-    while at < terms.len() {
-        let end = at + terms[at + 2] as usize;
-        let answer = eval_node(
-            &terms[at..end],
-            &mut rows[Instantiables::ROOM..],
-            factor,
-            old,
-            depth - 1,
-        );
-        let Valued::Is(value) = answer else {
-            return answer;
-        };
-        list = take_in(kind, n, list, rows, value.count, factor, old);
-        n += 1;
-        at = end;
-    }
-    finished(kind, n, list)
-}
-
-// One term more, whose list of m rows stands above the node's own: it is copied out, since one slice is lent at a time.
-fn take_in(
-    kind: u16,
-    n: usize,
-    list: Listed,
-    rows: &mut [u16],
-    m: usize,
-    factor: &mut [u16],
-    old: &mut [u16],
-) -> Listed
-    requires { ⌜ Ready list (now rows) × Stands (drop 1664 (now rows)) m × Sets (partsAt m (drop 1664 (now rows))) ⌝ }
-    requires { ⌜ (1664 ≤ length (now factor)) × (1664 ≤ length (now old)) ⌝ }
-    ensures { λ r. ⌜ Valuing (withTerm kind n (listAt list (now (rows .entry))) (partsAt m (drop 1664 (now (rows .entry))))) (now (rows .exit)) (toldListed r) ⌝ }
-{
-    let Listed::Rows(own) = list else {
-        return list;
-    };
-    copy(factor, &rows[Instantiables::ROOM..], 13 * m);
-    let new = Instantiables { count: m };
-    if kind == ANDOR {
-        return own.andor_step(rows, new, factor, old);
-    }
-    if kind == AND {
-        if n == 0 {
-            copy(rows, factor, 13 * m);
-            return Listed::Rows(new);
-        }
-        copy(old, rows, 13 * own.count);
-        return Instantiables::bitand(rows, own, old, new, factor);
-    }
-    own.add(rows, new, factor)
-}
-
-// All n terms are taken in: 9, then 10, then what became of the list.
-fn finished(kind: u16, n: usize, list: Listed) -> Valued
-    ensures { λ r. ⌜ toldValued r ≡ unless (refusalOf (kindOf kind) n) (toldListed list) ⌝ }
-{
-    if kind == ANDOR {
-        if n == 0 {
-            return Valued::Refused(Refusal::of(9));
-        }
-        if Instantiables::FACTORS < n {
-            return Valued::Refused(Refusal::of(10));
-        }
-        return answered(list);
-    }
-    if kind == AND {
-        if n < 2 {
-            return Valued::Refused(Refusal::of(9));
-        }
-        return answered(list);
-    }
-    answered(list)
-}
-
-// What became of the list, as an answer.
-fn answered(list: Listed) -> Valued
-    ensures { λ r. ⌜ toldValued r ≡ toldListed list ⌝ }
-{
-    match list {
-        Listed::Rows(l) => Valued::Is(Value { count: l.count }),
-        Listed::Refused(why) => Valued::Refused(why),
-    }
 }
 
 // Row to number: a set's number is its place in the list.

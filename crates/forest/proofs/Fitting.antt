@@ -9,9 +9,9 @@ use borrow.Author.Tests.{eqb-true, eq-eqb, ne-eqb, not-true}
 use lib.Dec.{ltb, eqb}
 use lib.ListN.{length}
 use Rattle.refusal.specs.declared.Refusal.{Refusal}
-use Rattle.sheet.specs.MeaningReading.{Reading}
+use Rattle.grammar.specs.MeaningReading.{Reading}
 use Rattle.sheet.specs.Claims.{AllBytes}
-use Rattle.sheet.specs.MirrorTable.{rowCount, cellAt, rowOf}
+use Rattle.grammar.specs.MirrorTable.{rowCount, cellAt, rowOf}
 use Rattle.sheet.specs.MirrorField.{fieldAt}
 use Rattle.sheet.specs.MirrorCheck.{fieldFault, countUp, stopAt, atEnd, goOn, onCount, onFault, onHeader, stepAt, after, andThen, walk, walkAt}
 use Rattle.sheet.specs.declared.Header.{Header}
@@ -23,7 +23,7 @@ use Rattle.sheet.specs.declared.Step.{Step}
 use Rattle.sheet.specs.declared.Step.the-variants.{Done, Past, Into, Stop}
 use Rattle.sheet.specs.declared.Checked.{Checked}
 use Rattle.sheet.specs.declared.Checked.the-variants.{Accepted, Refused}
-use Rattle.sheet.proofs.Choosing.{either, clash, both}
+use Rattle.grammar.proofs.Choosing.{either, clash, both}
 use Rattle.sheet.proofs.Onward.{walk-eq}
 use Rattle.forest.specs.MeaningForest.{Forest, field, encode}
 use Rattle.forest.specs.MeaningForest.Forest.{nil, leaf, node}

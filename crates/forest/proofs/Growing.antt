@@ -1,23 +1,23 @@
--- The fields of a value by places: what `forestAt` is, by the header that stands there; and a law for each way through the loop of `count_tag`.
-use mathlib.Core.Path.{_≡_, refl, sym, ap, _∙_, subst}
+-- The fields of a value by places: what `forestAt` is, by the header that stands there.
+use mathlib.Core.Path.{_≡_, refl, ap, _∙_}
 use mathlib.Core.List.{List, [], _∷_}
 use mathlib.Core.Bool.{Bool, true, false, cond}
 use Prim.Native.Nat.{ℕ, zero, suc, _+_, _-_, _*_, _<_, _≤_}
-use native.Mathlib.Nat.{not-suc-le-zero, le-refl}
+use native.Mathlib.Nat.{not-suc-le-zero}
 use native.Mathlib.Omega.{arith}
-use borrow.Author.Tests.{lt-ltb, le-ltb, ltb-true, ltb-false, eq-eqb, ne-eqb}
-use lib.Dec.{eqb, ltb}
+use borrow.Author.Tests.{lt-ltb, le-ltb, ltb-true, ltb-false}
+use lib.Dec.{ltb}
 use lib.ListN.{length, getD, take, drop, length-take, length-drop}
 use lib.Seq.{take-at, drop-at}
 use Rattle.sheet.specs.MeaningSheet.{sizeOf}
 use Rattle.sheet.specs.MirrorField.{fieldAt}
 use Rattle.sheet.specs.declared.Header.{Header}
 use Rattle.sheet.specs.declared.Header.the-variants.{Field, Passes}
-use Rattle.sheet.proofs.Choosing.{either}
-use Rattle.sheet.proofs.Deciding.{inside}
+use Rattle.grammar.proofs.Choosing.{either}
 use Rattle.forest.specs.MeaningForest.{Forest}
 use Rattle.forest.specs.MeaningForest.Forest.{nil, leaf, node}
-use Rattle.forest.specs.MeaningPlaces.{nests, decode, forestAt, countTag}
+use Rattle.forest.specs.MeaningPlaces.{nests}
+use Rattle.forest.specs.MeaningDecoding.{decode, forestAt}
 use Rattle.forest.proofs.Laying.{part, length-part, three, part-split}
 
 -- one more field in front
@@ -96,57 +96,3 @@ module _ (s : List ℕ) (at e : ℕ) (h : e ≤ length s) where
       (λ k. either (Grown s at e) (ltb (e - (at + 3)) (sizeOf s at)) Passes _
       (λ w. cut (omega (arith, ltb-false (e - at) 3 k)) (ltb-true (e - (at + 3)) (sizeOf s at) w))
       (λ w. here (sizeOf s at) refl (omega (arith, ltb-false (e - at) 3 k, ltb-false (e - (at + 3)) (sizeOf s at) w))))
-
--- ---- the loop
-
-count-onto : (t u : ℕ) (b : Bool) (v : List ℕ) (g f : Forest) → countTag t (onto b u v g f) ≡ cond (eqb u t) 1 0 + countTag t f
-unfolding countTag
-count-onto t u true v g f = refl
-count-onto t u false v g f = refl
-
--- n fields with the tag stand before the place, and r in all
-pub record Counting (s : List ℕ) (tag at e n from r : ℕ) : Type 0 where
-  pub begun : at ≤ from
-  pub inside-it : from ≤ e
-  pub fitting : e ≤ length s
-  pub few : n ≤ from
-  pub rest : n + countTag tag (forestAt s from e) ≡ r
-
-pub count-start : (s : List ℕ) (tag at e : ℕ) → at ≤ e → e ≤ length s → Counting s tag at e 0 at (countTag tag (forestAt s at e))
-count-start s tag at e h k = record { begun = le-refl at; inside-it = h; fitting = k; few = omega arith; rest = omega arith }
-
-module _ (s : List ℕ) (tag at e n from r : ℕ) (f : Counting s tag at e n from r) (h : Header) (q : h ≡ fieldAt s from e) where
-  pub count-none : h ≡ Passes → n ≡ r
-  unfolding countTag
-  count-none k =
-      let z : countTag tag (forestAt s from e) ≡ 0 = rw (subst (Grown s from e) (sym q ∙ k) (grown s from e (f .fitting))) in
-      omega (arith, f .rest)
-
-  module _ (t a b : ℕ) (k : h ≡ Field t a b) where
-    lies : (from < a) × (a ≤ b) × (b ≤ e)
-    lies = let i = inside s from e in rw (sym q ∙ k) at i
-
-    one : countTag tag (forestAt s from e) ≡ cond (eqb t tag) 1 0 + countTag tag (forestAt s b e)
-    one = ap (countTag tag) (subst (Grown s from e) (sym q ∙ k) (grown s from e (f .fitting))) ∙ count-onto tag t (nests t) (part s a b) (forestAt s a b) (forestAt s b e)
-
-    pub count-on : e - b < e - from
-    count-on = let i = lies in omega arith
-
-    pub count-small : n < e
-    count-small = let i = lies in omega (arith, f .few)
-
-    pub count-one : t ≡ tag → Counting s tag at e (n + 1) b r
-    count-one z =
-        let i = lies in
-        let o = one in
-        let y : _≡_ {A = ℕ} (cond (eqb t tag) 1 0) 1 = rw (eq-eqb t tag z) refl in
-        record { begun = omega (arith, f .begun); inside-it = i .2; fitting = f .fitting; few = omega (arith, f .few); rest = omega (arith, f .rest) }
-
-    pub count-other : (t ≡ tag → ⊥) → Counting s tag at e n b r
-    count-other z =
-        let i = lies in
-        let o = one in
-        let y : _≡_ {A = ℕ} (cond (eqb t tag) 1 0) 0 = rw (ne-eqb t tag z) refl in
-        record { begun = omega (arith, f .begun); inside-it = i .2; fitting = f .fitting; few = omega (arith, f .few); rest = omega (arith, f .rest) }
-
-pub ruleset counting = (count-start, count-none, count-on, count-small, count-one, count-other)

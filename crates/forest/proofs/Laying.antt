@@ -13,7 +13,7 @@ use Rattle.sheet.specs.Claims.{AllBytes}
 use Rattle.sheet.specs.MirrorField.{fieldAt}
 use Rattle.sheet.specs.declared.Header.{Header}
 use Rattle.sheet.specs.declared.Header.the-variants.{Field, Passes}
-use Rattle.sheet.proofs.Choosing.{either}
+use Rattle.grammar.proofs.Choosing.{either}
 use Rattle.forest.specs.MeaningForest.{field}
 
 -- the bytes from a to b

@@ -12,9 +12,9 @@ use lib.ListN.{length, length-append}
 use lib.Seq.{take-append-seam, drop-append-seam, take-length}
 use Rattle.refusal.specs.declared.Refusal.{Refusal}
 use Rattle.refusal.specs.MeaningAnswer.{done}
-use Rattle.sheet.specs.MeaningReading.{Reading}
-use Rattle.sheet.specs.MeaningGrammar.{Kind, kindOf, most-bytes, most-depth}
-use Rattle.sheet.specs.MeaningGrammar.Kind.{name, simple, empty, fields}
+use Rattle.grammar.specs.MeaningReading.{Reading}
+use Rattle.grammar.specs.MeaningGrammar.{Kind, kindOf, most-bytes, most-depth}
+use Rattle.grammar.specs.MeaningGrammar.Kind.{name, simple, empty, fields}
 use Rattle.sheet.specs.MeaningSheet.{Is}
 use Rattle.sheet.specs.Told.{told}
 use Rattle.sheet.specs.Promises.{Promise-verdict}
@@ -24,12 +24,13 @@ use Rattle.sheet.specs.declared.Judgement.{Judgement}
 use Rattle.sheet.specs.declared.Counts.{Counts}
 use Rattle.sheet.specs.declared.Checked.{Checked}
 use Rattle.sheet.specs.declared.Checked.the-variants.{Accepted, Refused}
-use Rattle.sheet.proofs.Choosing.{clash}
+use Rattle.grammar.proofs.Choosing.{clash}
 use Rattle.sheet.proofs.FirstFault.{check-accepts, check-refuses}
 use Rattle.sheet.proofs.Proved.{accepts-exactly}
 use Rattle.forest.specs.MeaningForest.{Forest, field, encode, Sound, Right, Fits}
 use Rattle.forest.specs.MeaningForest.Forest.{nil, leaf, node}
-use Rattle.forest.specs.MeaningPlaces.{holdsFields, nests, decode, forestOf}
+use Rattle.forest.specs.MeaningPlaces.{holdsFields, nests}
+use Rattle.forest.specs.MeaningDecoding.{decode, forestOf}
 use Rattle.forest.proofs.Laying.{part}
 use Rattle.forest.proofs.Fitting.{exactly}
 use Rattle.forest.proofs.Totalling.{fits-whole, whole-fits}

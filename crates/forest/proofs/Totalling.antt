@@ -8,20 +8,20 @@ use native.Mathlib.Omega.{arith}
 use borrow.Author.Tests.{eqb-true, eq-eqb, lt-ltb, ltb-true, leb-true, leb-false}
 use lib.Dec.{eqb, ltb, leb}
 use lib.ListN.{length, drop, length-append}
-use Rattle.sheet.specs.MeaningReading.{Reading}
+use Rattle.grammar.specs.MeaningReading.{Reading}
 use Rattle.sheet.specs.MeaningName.{isName}
-use Rattle.sheet.specs.MeaningGrammar.{oneOf, expressions, slotsOf, Fills, Kind, kindOf, isSimple, most-bytes, most-depth, Limit, most, counts}
-use Rattle.sheet.specs.MeaningGrammar.Kind.{name, simple, empty, fields}
-use Rattle.sheet.specs.MeaningGrammar.Limit.{schemas, declarations, constraints, terms}
+use Rattle.grammar.specs.MeaningGrammar.{oneOf, expressions, slotsOf, Fills, Kind, kindOf, isSimple, most-bytes, most-depth, Limit, most, counts}
+use Rattle.grammar.specs.MeaningGrammar.Kind.{name, simple, empty, fields}
+use Rattle.grammar.specs.MeaningGrammar.Limit.{schemas, declarations, constraints, terms}
 use Rattle.sheet.specs.Claims.{AllBytes}
-use Rattle.sheet.specs.MirrorTable.{rowCount, cellAt, rowOf}
+use Rattle.grammar.specs.MirrorTable.{rowCount, cellAt, rowOf}
 use Rattle.sheet.specs.MirrorCheck.{countUp, noCounts}
 use Rattle.sheet.specs.declared.Counts.{Counts}
 use Rattle.sheet.specs.declared.Counted.{Counted}
 use Rattle.sheet.specs.declared.Counted.the-variants.{Within, Over}
-use Rattle.sheet.proofs.Choosing.{either, clash}
+use Rattle.grammar.proofs.Choosing.{either, clash}
 use Rattle.sheet.proofs.Deciding.{NoFault, no-fault, faultless}
-use Rattle.sheet.proofs.Tabulated.{Fit, sheet-fit, no-row, end-row, no-end, next-fit, new-fit, class-of, level-of, answer-of}
+use Rattle.grammar.proofs.Tabulated.{Fit, sheet-fit, no-row, end-row, no-end, next-fit, new-fit, class-of, level-of, answer-of}
 use Rattle.sheet.proofs.Valuing.{faultKind, value-is, holds-fields, holds-none}
 use Rattle.sheet.proofs.Counting.{of, AllTallied, all-tallied}
 use Rattle.forest.specs.MeaningForest.{Forest, field, encode, tagsIn, Sound, Right, total, larger, height, Fits}

@@ -1,3 +1,4 @@
 -- Meanings.
-pub mod MeaningForest
 pub mod MeaningPlaces
+pub mod MeaningForest
+pub mod MeaningDecoding

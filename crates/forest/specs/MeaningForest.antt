@@ -5,10 +5,10 @@ use mathlib.Core.List.{List, [], _∷_, _++_}
 use mathlib.Core.Bool.{true, cond}
 use lib.ListN.{length}
 use lib.Dec.{leb}
-use Rattle.sheet.specs.MeaningReading.{Reading, answers}
+use Rattle.grammar.specs.MeaningReading.{Reading, answers}
 use Rattle.sheet.specs.MeaningName.{isName}
-use Rattle.sheet.specs.MeaningGrammar.{oneOf, expressions, slotsOf, Fills, Kind, kindOf, isSimple, most-bytes, most-depth, Limit, most, counts}
-use Rattle.sheet.specs.MeaningGrammar.Kind.{name, simple, empty, fields}
+use Rattle.grammar.specs.MeaningGrammar.{oneOf, expressions, slotsOf, Fills, Kind, kindOf, isSimple, most-bytes, most-depth, Limit, most, counts}
+use Rattle.grammar.specs.MeaningGrammar.Kind.{name, simple, empty, fields}
 
 -- the fields of a value: none; one with a plain value, and those after it; or one with fields, and those after it
 pub data Forest : Type 0 where

@@ -9,7 +9,7 @@ use native.Mathlib.Omega.{arith}
 use borrow.Author.Tests.{eq-eqb}
 use lib.Dec.{eqb}
 use Rattle.refusal.specs.MeaningAnswer.{Answer, done, refused, mapped, _>>=_}
-use Rattle.sheet.specs.MeaningReading.{Reading}
+use Rattle.grammar.specs.MeaningReading.{Reading}
 use Rattle.sheet.specs.MeaningName.{Name}
 use Rattle.schemas.specs.MeaningTree.{Tree}
 use Rattle.schemas.specs.MeaningTree.Tree.{nil, leaf, node}
@@ -20,20 +20,22 @@ use Rattle.expression.specs.MeaningExpression.{Expr, Terms}
 use Rattle.expression.specs.MeaningExpression.Expr.{reference, andor, «and», oneof}
 use Rattle.expression.specs.MeaningExpression.Terms.{end, _then_}
 use Rattle.lookup.specs.MirrorLookup.{itself}
-use Rattle.namespace.specs.MeaningNamespace.{scopeIn, itemOf, pathIn, first, resolved}
-use Rattle.namespace.specs.MirrorNamespace.{wordOf, schemaScope}
-use Rattle.namespace.specs.MeaningNamespace.Named.{an-entity}
-use Rattle.namespace.proofs.Schemas.{named-so}
-use Rattle.namespace.proofs.Scopes.{declaration-same, seen-same, resolved-first}
+use Rattle.declarations.specs.MeaningNamespace.{scopeIn, itemOf, pathIn, first, resolved}
+use Rattle.declarations.specs.MirrorNamespace.{wordOf, schemaScope}
+use Rattle.declarations.specs.MeaningNamespace.Named.{an-entity}
+use Rattle.declarations.proofs.Schemas.{named-so}
+use Rattle.declarations.proofs.Scopes.{declaration-same, seen-same, resolved-first}
 use Rattle.merging.specs.MeaningMerging.{Combined, Pair}
 use Rattle.merging.specs.MirrorStream.{paired}
-use Rattle.gathering.specs.MeaningGathering.{through, ruleOf, supersOf, resolvedExpr, resolvedTerms, subtype, stepC}
-use Rattle.gathering.specs.MeaningCombined.{pathFor, ownPath, numberFor, numberIn}
-use Rattle.gathering.specs.MirrorGathering.{sum, highest, ruleSize, ruleLevel, superSize, constraintSize, constraintLevel, rulesSize, supersSize, constraintsSize, schemaLevel, behind, ruleKept, rulesKept, constraintKept, constraintsKept, numberMeant, ownNumber}
-use Rattle.gathering.specs.MirrorWalk.{schemaNamed, superKept, itemKept, allKept, itemSize, itemLevel, itemsSize, itemsLevel, allSize, allLevel}
+use Rattle.records.specs.MeaningResolving.{ruleOf, resolvedExpr, resolvedTerms, pathFor, ownPath, numberFor, numberIn}
+use Rattle.gathering.specs.MeaningGathering.{through, supersOf, subtype, stepC}
+use Rattle.records.specs.MirrorRecords.{behind, numberMeant, ownNumber, schemaNamed}
+use Rattle.gathering.specs.MirrorGathering.{sum, highest, ruleSize, ruleLevel, superSize, constraintSize, constraintLevel, rulesSize, supersSize, constraintsSize, schemaLevel, ruleKept, rulesKept, constraintKept, constraintsKept}
+use Rattle.gathering.specs.MirrorWalk.{superKept, itemKept, allKept, itemSize, itemLevel, itemsSize, itemsLevel, allSize, allLevel}
 use Rattle.gathering.specs.declared.Pass.{Pass}
 use Rattle.gathering.specs.declared.Pass.the-variants.{Rules, Constraints, Subtypes}
-use Rattle.gathering.proofs.Following.{Follows, has, has-not, follow-mapped, follow-through}
+use Rattle.records.proofs.Following.{Follows, has, has-not, follow-mapped}
+use Rattle.gathering.proofs.Following.{follow-through}
 use Rattle.gathering.proofs.Renaming.{map-last}
 
 -- ---- by the name alone

@@ -10,25 +10,27 @@ use borrow.Author.Tests.{eqb-true, leb-true, leb-false}
 use lib.Dec.{eqb, leb}
 use lib.ListN.{length}
 use Rattle.refusal.specs.MeaningAnswer.{done}
-use Rattle.sheet.specs.MeaningReading.{Reading}
+use Rattle.grammar.specs.MeaningReading.{Reading}
 use Rattle.sheet.specs.MeaningName.{Name}
-use Rattle.sheet.specs.MeaningGrammar.{oneOf, expressions, counts}
-use Rattle.sheet.specs.MeaningGrammar.Limit.{terms}
+use Rattle.grammar.specs.MeaningGrammar.{oneOf, expressions, counts}
+use Rattle.grammar.specs.MeaningGrammar.Limit.{terms}
 use Rattle.sheet.specs.MeaningSheet.{Is}
 use Rattle.sheet.specs.Claims.{AllBytes}
-use Rattle.sheet.proofs.Choosing.{either}
+use Rattle.grammar.proofs.Choosing.{either}
 use Rattle.expression.specs.MeaningExpression.{Expr, Terms}
 use Rattle.expression.specs.MeaningExpression.Terms.{end, _then_}
 use Rattle.forest.specs.MeaningForest.{total, larger, height}
 use Rattle.forest.proofs.Proved.{has-its-forest}
-use Rattle.schemas.specs.MeaningTree.{Tree, bare, treeOf}
+use Rattle.schemas.specs.MeaningTree.{Tree, treeOf}
+use Rattle.schemas.specs.MeaningBare.{bare}
 use Rattle.schemas.specs.MeaningTree.Tree.{nil, leaf, node}
 use Rattle.schemas.specs.MeaningSchemas.{Mark, nameAt, namesOf, termsOf, firstOf, exprOf, ruled, markOf, supertypesOf, entityOf, constraintOf, each, schemaOf, schemasOf}
 use Rattle.schemas.specs.MeaningSchemas.Mark.{abstract-supertype}
 use Rattle.schemas.proofs.Proved.{bare-tree}
-use Rattle.namespace.specs.MeaningOrder.{schemasIn}
+use Rattle.declarations.specs.MeaningNamespace.{schemasIn}
 use Rattle.gathering.specs.MeaningGathering.{supersOf}
-use Rattle.gathering.specs.MirrorGathering.{size, sizes, level, levels, given, sum, highest, markedBy, ruleSize, ruleLevel, superSize, constraintSize, constraintLevel, rulesSize, supersSize, constraintsSize, schemaLevel, Bounded}
+use Rattle.records.specs.MirrorRecords.{size, sizes, level, levels}
+use Rattle.gathering.specs.MirrorGathering.{given, sum, highest, markedBy, ruleSize, ruleLevel, superSize, constraintSize, constraintLevel, rulesSize, supersSize, constraintsSize, schemaLevel, Bounded}
 
 -- ---- what counts
 

@@ -1,28 +1,30 @@
 -- What names mean is declared, and so is every entity; equal paths are those with one number.
+use Prim.Native.Nat.{ℕ, suc, _+_}
 use mathlib.Core.Path.{_≡_, refl, sym, ap, _∙_, subst}
 use mathlib.Core.List.{List, [], _∷_, _++_, map}
 use mathlib.Core.Bool.{Bool, true, false}
 use mathlib.Core.Option.{Option, none, some}
-use Prim.Native.Nat.{ℕ, zero, suc, _+_}
 use borrow.Author.Tests.{eqb-true, eq-eqb}
 use lib.Dec.{eqb}
-use lib.ListN.{length, getElem?}
+use lib.ListN.{length}
 use Rattle.refusal.specs.MeaningAnswer.{mapped}
 use Rattle.complex_entity.specs.MeaningSets.{_∈_, here, there}
-use Rattle.sheet.specs.MeaningReading.{Reading}
-use Rattle.sheet.specs.MeaningName.{Name}
-use Rattle.sheet.proofs.Choosing.{clash}
-use Rattle.schemas.specs.MeaningSchemas.{Entity, Schema}
-use Rattle.scope.specs.MeaningScope.{Scope, Path, samePath}
-use Rattle.namespace.specs.MeaningNamespace.{Declaration, Named, pathIn, declaredBy, numbered, entriesFrom, allOf, declarations, answered, declarationFor, resolved}
-use Rattle.namespace.specs.MeaningNamespace.Named.{a-type, an-entity}
-use Rattle.namespace.proofs.Scopes.{path-refl, path-sym, path-trans}
-use Rattle.namespace.proofs.Proved.{resolved-declared, get-finds, get-apart}
+use Rattle.complex_entity.proofs.Members.{∈-append-left, ∈-append-right, ∈-map}
 use Rattle.merging.specs.Claims.{Equivalence}
-use Rattle.gathering.specs.MeaningCombined.{pathFor, ownPath, numberIn, numberFor}
-use Rattle.gathering.specs.MirrorGathering.{numberMeant}
+use Rattle.grammar.specs.MeaningReading.{Reading}
+use Rattle.sheet.specs.MeaningName.{Name}
+use Rattle.grammar.proofs.Choosing.{clash}
+use Rattle.scope.specs.MeaningScope.{Scope, Path, samePath}
+use Rattle.schemas.specs.MeaningSchemas.{Entity, Schema}
+use Rattle.declarations.specs.MeaningNamespace.{Declaration, Named, pathIn, declaredBy, numbered, entriesFrom, allOf, declarations, answered, declarationFor, resolved}
+use Rattle.declarations.specs.MeaningNamespace.Named.{a-type, an-entity}
+use Rattle.declarations.proofs.Scopes.{path-refl, path-sym, path-trans}
+use Rattle.declarations.proofs.Proved.{resolved-declared, get-apart}
+use Rattle.records.proofs.Declaring.{in-at, path-declared}
+use Rattle.records.specs.MeaningResolving.{pathFor, ownPath, numberIn, numberFor}
+use Rattle.records.specs.MirrorRecords.{numberMeant}
+use Rattle.records.proofs.Following.{Follows, has, has-not}
 use Rattle.gathering.specs.Claims.{IsDeclared}
-use Rattle.gathering.proofs.Following.{Follows, has, has-not}
 
 -- ---- two equivalences
 
@@ -31,26 +33,6 @@ by-number = record { reflexive = λ p. eq-eqb p p refl; symmetric = λ p q e. eq
 
 pub by-path : (rd : Reading) → Equivalence (samePath rd)
 by-path rd = record { reflexive = path-refl rd; symmetric = path-sym rd; transitive = path-trans rd }
-
--- ---- members
-
-pub in-at : {A : Type 0} (l : List A) (i : ℕ) (a : A) → getElem? l i ≡ some a → a ∈ l
-in-at [] zero a q = clash (cc)
-in-at [] (suc i) a q = clash (cc)
-in-at (b ∷ l) zero a q = let z : a ≡ b = cc in here z
-in-at (b ∷ l) (suc i) a q = there (in-at l i a q)
-
-in-left : {A : Type 0} {a : A} {l : List A} (k : List A) → a ∈ l → a ∈ (l ++ k)
-in-left k (here e) = here e
-in-left k (there m) = there (in-left k m)
-
-in-right : {A : Type 0} {a : A} (l : List A) {k : List A} → a ∈ k → a ∈ (l ++ k)
-in-right [] m = m
-in-right (b ∷ l) m = there (in-right l m)
-
-in-map : {A B : Type 0} (f : A → B) {a : A} {l : List A} → a ∈ l → f a ∈ map f l
-in-map f (here e) = here (ap f e)
-in-map f (there m) = there (in-map f m)
 
 -- a declaration of what is named
 abbrev Declares : List Declaration → Schema → Named → Type 0
@@ -63,21 +45,17 @@ declares-here x n w (v ∷ ws) (there m) = let i = declares-here x (suc n) w ws 
 
 declares-all : (n : ℕ) (xs : List Schema) (x : Schema) (w : Named) → x ∈ xs → w ∈ declaredBy x → Declares (allOf (entriesFrom n xs)) x w
 unfolding allOf entriesFrom
-declares-all n (y ∷ xs) x w (here e) m = let i = declares-here y n w (declaredBy y) (subst (λ (z : Schema). w ∈ declaredBy z) e m) in (i .0, in-left _ (i .1), i .2 ∙ ap (λ (z : Schema). pathIn z w) (sym e))
-declares-all n (y ∷ xs) x w (there k) m = let i = declares-all (n + length (declaredBy y)) xs x w k m in (i .0, in-right (numbered y n (declaredBy y)) (i .1), i .2)
+declares-all n (y ∷ xs) x w (here e) m = let i = declares-here y n w (declaredBy y) (subst (λ (z : Schema). w ∈ declaredBy z) e m) in (i .0, ∈-append-left _ _ (i .1), i .2 ∙ ap (λ (z : Schema). pathIn z w) (sym e))
+declares-all n (y ∷ xs) x w (there k) m = let i = declares-all (n + length (declaredBy y)) xs x w k m in (i .0, ∈-append-right (numbered y n (declaredBy y)) _ (i .1), i .2)
 
 declares : (xs : List Schema) (x : Schema) (e : Entity) → x ∈ xs → e ∈ x .entities → Declares (declarations xs) x (an-entity e)
 unfolding declarations declaredBy
-declares xs x e m k = declares-all 0 xs x (an-entity e) m (in-right (map a-type (x .types)) (in-map an-entity k))
+declares xs x e m k = declares-all 0 xs x (an-entity e) m (∈-append-right (map a-type (x .types)) _ (∈-map an-entity k))
 
 module _ (rd : Reading) (xs : List Schema) where
-  -- where there is a declaration, its path is declared
-  pub path-declared : (d : Declaration) (p : Path) → d ∈ declarations xs → d .path ≡ p → IsDeclared rd xs p
-  path-declared d p m e = get-finds rd xs p d m (rw e (by-path rd .reflexive p))
-
   pub own-declared : (x : Schema) → x ∈ xs → (e : Entity) → e ∈ x .entities → IsDeclared rd xs (ownPath x e)
   unfolding ownPath
-  own-declared x m e k = let d = declares xs x e m k in path-declared (d .0) (pathIn x (an-entity e)) (d .1) (d .2)
+  own-declared x m e k = let d = declares xs x e m k in path-declared rd xs (d .0) (pathIn x (an-entity e)) (d .1) (d .2)
 
   pub meant-declared : (sc : Scope) (x : Name) → Follows (numberFor rd xs) (IsDeclared rd xs) (pathFor rd xs sc x) (numberMeant rd xs sc x)
   unfolding pathFor numberMeant answered
@@ -86,7 +64,7 @@ module _ (rd : Reading) (xs : List Schema) where
       by : (o : Option Declaration) → resolved rd xs sc (x .bytes) ≡ o
           → Follows (numberFor rd xs) (IsDeclared rd xs) (mapped (λ d. d .path) (answered 6 (x .at) o)) (mapped (numberFor rd xs) (mapped (λ d. d .path) (answered 6 (x .at) o)))
       by none q = has-not refl
-      by (some d) q = has (path-declared d (d .path) (in-at (declarations xs) (d .number) d (resolved-declared rd xs sc (x .bytes) d q .1)) refl) refl
+      by (some d) q = has (path-declared rd xs d (d .path) (in-at (declarations xs) (d .number) d (resolved-declared rd xs sc (x .bytes) d q .1)) refl) refl
 
   pub number-is : (p : Path) (d : Declaration) → declarationFor rd xs p ≡ some d → numberFor rd xs p ≡ d .number
   unfolding numberFor numberIn

@@ -1,37 +1,13 @@
--- One walk follows another: it is refused where the other is, and has what the other has, seen through h.
-use mathlib.Core.Path.{_≡_, refl, ap, subst}
+-- One walk through a list follows another.
+use mathlib.Core.Path.{refl}
 use mathlib.Core.List.{List, [], _∷_}
-use Prim.Native.Nat.{ℕ}
-use Rattle.refusal.specs.MeaningAnswer.{Answer, done, refused, mapped, _>>=_}
+use Rattle.refusal.specs.MeaningAnswer.{Answer}
 use Rattle.complex_entity.specs.MeaningSets.{_∈_, here, there}
-use Rattle.sheet.proofs.Choosing.{clash}
+use Rattle.records.proofs.Following.{Follows, has, follow-bind}
 use Rattle.gathering.specs.MeaningGathering.{through}
-
--- b is a's answer by h, and what a answers is in P
-pub data Follows {G H : Type 0} (h : G → H) (P : G → Type 0) : Answer G → Answer H → Type 0 where
-  has : {g : G} {b : Answer H} → P g → b ≡ done (h g) → Follows h P (done g) b
-  has-not : {n place : ℕ} {b : Answer H} → b ≡ refused n place → Follows h P (refused n place) b
-
-pub follow-mapped : {G H : Type 0} {h : G → H} {P : G → Type 0} {a : Answer G} {b : Answer H} → Follows h P a b → b ≡ mapped h a
-follow-mapped (has p q) = q
-follow-mapped (has-not q) = q
-
-pub follow-kept : {G H : Type 0} {h : G → H} {P : G → Type 0} {a : Answer G} {b : Answer H} → Follows h P a b → (g : G) → a ≡ done g → P g
-follow-kept {P} (has {g} p q) k e = let z : g ≡ k = cc in subst P z p
-follow-kept (has-not q) k e = clash (cc)
-
-pub follow-bind : {G H K L : Type 0} {h : G → H} {P : G → Type 0} {k : K → L} {Q : K → Type 0} {a : Answer G} {b : Answer H} {f : G → Answer K} (f' : H → Answer L)
-    → Follows h P a b → ((g : G) → P g → Follows k Q (f g) (f' (h g))) → Follows k Q (a >>= f) (b >>= f')
-follow-bind f' (has {g} p q) go = rw q (go g p)
-follow-bind f' (has-not q) go = rw q (has-not refl)
 
 pub follow-through : {A G H : Type 0} {h : G → H} {P : G → Type 0} (f : A → G → Answer G) (f' : A → H → Answer H) (xs : List A)
     → ((x : A) → x ∈ xs → (g : G) → P g → Follows h P (f x g) (f' x (h g))) → (g : G) → P g → Follows h P (through f xs g) (through f' xs (h g))
 unfolding through
 follow-through f f' [] go g p = has p refl
 follow-through f f' (x ∷ xs) go g p = follow-bind (λ k. through f' xs k) (go x (here refl) g p) (λ k q. follow-through f f' xs (λ y m. go y (there m)) k q)
-
-pub follow-by : {G H K L : Type 0} {h : G → H} {P : G → Type 0} {k : K → L} {Q : K → Type 0} {a : Answer G} {b : Answer H} (f : G → K) (f' : H → L)
-    → Follows h P a b → ((g : G) → P g → Q (f g) × (f' (h g) ≡ k (f g))) → Follows k Q (mapped f a) (mapped f' b)
-follow-by f f' (has {g} p q) go = rw q (has (go g p .0) (ap done (go g p .1)))
-follow-by f f' (has-not q) go = rw q (has-not refl)

@@ -7,24 +7,25 @@ use lib.Dec.{eqb}
 use lib.ListN.{length, take, length-append}
 use Rattle.refusal.specs.MeaningAnswer.{Answer, done, refused, mapped, _>>=_}
 use Rattle.refusal.specs.declared.Refusal.{Refusal}
-use Rattle.sheet.specs.MeaningReading.{Reading}
-use Rattle.sheet.proofs.Choosing.{clash}
+use Rattle.grammar.specs.MeaningReading.{Reading}
+use Rattle.grammar.proofs.Choosing.{clash}
 use Rattle.schemas.specs.MeaningTree.{Tree, treeOf}
 use Rattle.schemas.specs.MeaningSchemas.{Schema, each, schemasOf}
 use Rattle.lookup.specs.MirrorLookup.{itself}
-use Rattle.namespace.specs.MeaningOrder.{schemasIn}
+use Rattle.declarations.specs.MeaningNamespace.{schemasIn}
 use Rattle.merging.specs.MeaningMerging.{Combined, Pair}
 use Rattle.merging.specs.MirrorStream.{streamOf, paired, pairsOf}
 use Rattle.merging.proofs.Streams.{stream-append}
 use Rattle.gathering.specs.MeaningGathering.{through, stepC}
-use Rattle.gathering.specs.MirrorGathering.{Bounded, constraintsKept, streamsOf, numberMeant, ownNumber, streams}
-use Rattle.gathering.specs.MirrorWalk.{Stands, Kept, Room, allKept, itemsSize, allSize, allLevel, toldFilled, toldGathered, Streamed}
-use Rattle.gathering.specs.declared.Filled.{Filled}
-use Rattle.gathering.specs.declared.Filled.the-variants.{To, Refused}
+use Rattle.records.specs.MirrorRecords.{numberMeant, ownNumber, Stands, Kept, Room, toldFilled}
+use Rattle.gathering.specs.MirrorGathering.{Bounded, constraintsKept, streamsOf, streams}
+use Rattle.gathering.specs.MirrorWalk.{allKept, itemsSize, allSize, allLevel, toldGathered, Streamed}
+use Rattle.records.specs.declared.Filled.{Filled}
+use Rattle.records.specs.declared.Filled.the-variants.{To, Refused}
 use Rattle.gathering.specs.declared.Gathered as gathered
 use Rattle.gathering.specs.declared.Pass.{Pass}
 use Rattle.gathering.specs.declared.Pass.the-variants.{Rules, Constraints, Subtypes}
-use Rattle.gathering.proofs.Records.{Became, became, refused-so}
+use Rattle.records.proofs.Records.{Became, became, refused-so}
 use Rattle.gathering.proofs.Walking.{through-cheap, items-cheap}
 use Rattle.gathering.proofs.Alike.{all-rules, all-constraints, all-pairs, rules-size, constraints-size, supers-size, all-level}
 

@@ -5,19 +5,22 @@ use mathlib.Core.Bool.{Bool, true, false, cond}
 use mathlib.Core.Option.{Option, none, some}
 use Prim.Native.Nat.{ℕ}
 use Rattle.refusal.specs.MeaningAnswer.{Answer, done, refused, mapped, _>>=_}
-use Rattle.sheet.specs.MeaningReading.{Reading}
+use Rattle.grammar.specs.MeaningReading.{Reading}
 use Rattle.sheet.specs.MeaningName.{Name}
 use Rattle.schemas.specs.MeaningSchemas.{Entity, Constraint, Schema}
 use Rattle.scope.specs.MeaningScope.{Scope}
 use Rattle.expression.specs.MeaningExpression.{Expr}
-use Rattle.namespace.specs.MeaningNamespace.{scopeIn}
-use Rattle.merging.specs.MeaningMerging.{Combined, Pair, find, merged, vacant, entered, grouped, groupedOnto, withGroups, withSubtypes, mergedOnto, gathered}
-use Rattle.merging.specs.MeaningItems.{exprsOf, subsOf, fresh, combine, combinedOf}
+use Rattle.declarations.specs.MeaningNamespace.{scopeIn}
+use Rattle.merging.specs.MeaningMerging.{Combined, Pair, find, merged, vacant, entered, grouped, groupedOnto, withGroups, withSubtypes}
+use Rattle.merging.specs.MeaningItems.{mergedOnto, gathered, exprsOf, subsOf, fresh, combine, combinedOf}
 use Rattle.merging.specs.Claims.{Equivalence}
 use Rattle.merging.proofs.Proved.{projected}
-use Rattle.gathering.specs.MeaningGathering.{through, ruleOf, resolvedExpr, ruled, stepB, constrained, stepD, stepC, gather}
-use Rattle.gathering.specs.MirrorGathering.{behind, ruleKept, rulesKept, constraintKept, constraintsKept, streamsOf}
-use Rattle.gathering.proofs.Following.{Follows, has, has-not, follow-mapped, follow-bind, follow-through}
+use Rattle.records.specs.MeaningResolving.{ruleOf, resolvedExpr}
+use Rattle.gathering.specs.MeaningGathering.{through, ruled, stepB, constrained, stepD, stepC, gather}
+use Rattle.records.specs.MirrorRecords.{behind}
+use Rattle.gathering.specs.MirrorGathering.{ruleKept, rulesKept, constraintKept, constraintsKept, streamsOf}
+use Rattle.records.proofs.Following.{Follows, has, has-not, follow-mapped, follow-bind}
+use Rattle.gathering.proofs.Following.{follow-through}
 
 -- whether an owner is found, and whether it has items
 pub data Owns {N : Type 0} : Option (Expr N) → List (Expr N) → Type 0 where

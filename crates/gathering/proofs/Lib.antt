@@ -5,14 +5,10 @@ pub mod Renaming
 pub mod Declaring
 pub mod Numbering
 pub mod Bounding
-pub mod Seeking
-pub mod Spelling
-pub mod Meaning
-pub mod Appending
-pub mod Nodes
 pub mod Records
 pub mod Pairs
 pub mod Walking
+pub mod Beginning
 pub mod Alike
 pub mod Gathering
 pub mod Streaming

@@ -7,25 +7,28 @@ use Prim.Native.Nat.{ℕ}
 use lib.Dec.{eqb}
 use Rattle.refusal.specs.MeaningAnswer.{Answer, done, refused, mapped, _>>=_}
 use Rattle.complex_entity.specs.MeaningSets.{_∈_, here, there}
-use Rattle.sheet.specs.MeaningReading.{Reading}
-use Rattle.sheet.proofs.Choosing.{clash, either}
+use Rattle.grammar.specs.MeaningReading.{Reading}
+use Rattle.grammar.proofs.Choosing.{clash, either}
 use Rattle.schemas.specs.MeaningSchemas.{Schema}
 use Rattle.scope.specs.MeaningScope.{Path, samePath}
 use Rattle.expression.specs.MeaningExpression.{Expr, Terms}
 use Rattle.expression.specs.MeaningExpression.Expr.{reference, andor, «and», oneof}
 use Rattle.expression.specs.MeaningExpression.Terms.{end, _then_}
-use Rattle.namespace.specs.MeaningNamespace.{Declaration, answered, declarationFor}
-use Rattle.namespace.proofs.Proved.{get-lowest, get-finds}
-use Rattle.merging.specs.MeaningMerging.{Combined, Pair, find, gathered}
-use Rattle.merging.specs.MeaningItems.{combinedOf}
-use Rattle.merging.specs.MeaningNumbering.{mapExpr, mapCombined, mapPair, mapFound, GoodExpr, GoodTerms, GoodCombined, GoodPair, Each}
-use Rattle.merging.specs.Claims.{firsts}
+use Rattle.declarations.specs.MeaningNamespace.{Declaration, answered, declarationFor}
+use Rattle.declarations.proofs.Proved.{get-lowest, get-finds}
+use Rattle.merging.specs.MeaningMerging.{Combined, Pair, find}
+use Rattle.merging.specs.MeaningItems.{gathered, combinedOf}
+use Rattle.merging.specs.MeaningNumbering.{mapExpr}
+use Rattle.merging.specs.MeaningRenaming.{mapCombined, mapPair, mapFound, GoodExpr, GoodTerms, GoodCombined, GoodPair, Each}
+use Rattle.merging.specs.MeaningFirsts.{firsts}
 use Rattle.merging.proofs.Renaming.{good-gathered, mapped-gather, mapped-find}
 use Rattle.merging.proofs.Proved.{projected, owners-in-order}
-use Rattle.gathering.specs.MeaningCombined.{pathFor, ownPath, supertypes, combined, numberFor, numberedExpr}
-use Rattle.gathering.specs.MirrorGathering.{streamsOf, numberMeant, ownNumber, streams}
+use Rattle.records.specs.MeaningResolving.{pathFor, ownPath, numberFor}
+use Rattle.gathering.specs.MeaningCombined.{supertypes, combined, numberedExpr}
+use Rattle.records.specs.MirrorRecords.{numberMeant, ownNumber}
+use Rattle.gathering.specs.MirrorGathering.{streamsOf, streams}
 use Rattle.gathering.specs.Claims.{IsDeclared, Every, a-name, in-andor, in-and, in-oneof, EveryIn, none as no-terms, both as and-rest}
-use Rattle.gathering.proofs.Following.{Follows, has, has-not}
+use Rattle.records.proofs.Following.{Follows, has, has-not}
 use Rattle.gathering.proofs.Keeping.{gathers}
 use Rattle.gathering.proofs.Renaming.{streams-renamed}
 use Rattle.gathering.proofs.Declaring.{by-number, by-path, own-declared, meant-declared, number-is, told-apart}

@@ -1,7 +1,7 @@
 -- Records put one after the other: laws for every loop over things that each add to the records, and for those of names in SUBTYPE OF.
 use mathlib.Core.Path.{_≡_, refl, sym, ap, _∙_}
 use mathlib.Core.List.{List, [], _∷_, _++_, append-assoc}
-use mathlib.Core.Option.{some}
+use mathlib.Core.Option.{none, some}
 use Prim.Native.Nat.{ℕ, _+_, _*_, _<_, _≤_, max}
 use native.Mathlib.Nat.{le-refl}
 use native.Mathlib.Numerals.{add-one}
@@ -10,30 +10,32 @@ use lib.ListN.{length, take, drop, set, length-set, length-append}
 use lib.Seq.{take-at, take-suc-set, length-take-le}
 use Rattle.refusal.specs.MeaningAnswer.{Answer, done, refused, _>>=_}
 use Rattle.refusal.specs.declared.Refusal.{Refusal}
-use Rattle.sheet.specs.MeaningReading.{Reading}
+use Rattle.grammar.specs.MeaningReading.{Reading}
 use Rattle.sheet.specs.MeaningName.{Name}
 use Rattle.sheet.specs.declared.Header.{Header}
 use Rattle.sheet.specs.declared.Header.the-variants.{Field, Passes}
-use Rattle.sheet.proofs.Choosing.{clash}
+use Rattle.grammar.proofs.Choosing.{clash}
 use Rattle.schemas.specs.MeaningTree.{treeAt}
 use Rattle.schemas.specs.MeaningSchemas.{Schema, namesOf, supertypesOf, entityOf}
 use Rattle.scope.specs.MeaningScope.{Scope}
 use Rattle.expression.specs.MeaningExpression.Expr.{reference}
 use Rattle.expression.specs.MirrorNodes.{flat}
-use Rattle.namespace.specs.MeaningNamespace.{scopeIn}
-use Rattle.namespace.specs.MirrorNamespace.{schemaScope}
-use Rattle.namespace.specs.Told.{toldFound}
-use Rattle.namespace.specs.declared.Found.{Found}
-use Rattle.namespace.specs.declared.Found.the-variants as found
+use Rattle.declarations.specs.MeaningNamespace.{scopeIn}
+use Rattle.declarations.specs.MirrorNamespace.{schemaScope}
+use Rattle.declarations.specs.Told.{toldFound}
+use Rattle.declarations.specs.declared.Found.{Found}
+use Rattle.declarations.specs.declared.Found.the-variants as found
 use Rattle.merging.specs.MeaningMerging.{Combined}
 use Rattle.merging.specs.MirrorStream.{streamOf}
 use Rattle.gathering.specs.MeaningGathering.{through, supersOf}
-use Rattle.gathering.specs.MirrorGathering.{sum, highest, behind, numberMeant, ownNumber}
-use Rattle.gathering.specs.MirrorWalk.{fieldThen, Meets, wordAt, Stands, Kept, Within, Room, schemaNamed, superKept, itemKept, itemSize, itemLevel, toldFilled}
-use Rattle.gathering.specs.declared.Filled.the-variants.{To, Refused}
+use Rattle.records.specs.MirrorRecords.{behind, numberMeant, ownNumber, fieldThen, Meets, wordAt, Stands, Kept, Within, Room, schemaNamed, toldFilled}
+use Rattle.gathering.specs.MirrorGathering.{sum, highest}
+use Rattle.gathering.specs.MirrorWalk.{superKept, itemKept, itemSize, itemLevel}
+use Rattle.records.specs.declared.Filled.the-variants.{To, Refused}
 use Rattle.gathering.specs.declared.Pass.the-variants.{Subtypes}
-use Rattle.gathering.proofs.Seeking.{met, met-none, supers-sought, supers-front, names-sought, names-front}
-use Rattle.gathering.proofs.Records.{kept-done, kept-refused, kept-none, kept-same, became, refused-so, behind-is, behind-length, less-room}
+use Rattle.records.proofs.Seeking.{met, met-none, supers-sought, supers-front, names-sought, names-front}
+use Rattle.records.proofs.Records.{kept-done, kept-refused, kept-none, kept-same, became, refused-so, behind-is, behind-length}
+use Rattle.gathering.proofs.Records.{less-room}
 
 -- ---- one after the other
 
@@ -191,30 +193,37 @@ module _ (rd : Reading) (xs : List Schema) (w s : List ℕ) (own at e used : ℕ
 
 pub ruleset pairs = (pairs-start, pairs-none, pair-in, pair-fits, pair-small, pair-lost, pair-next)
 
+-- ---- the names in SUBTYPE OF
+
+module _ (s : List ℕ) (at e : ℕ) (h : Header) (m : Meets s at e 0x34 0x34 h) where
+  pub no-names : h ≡ Passes → supertypesOf (treeAt s at e) ≡ none
+  unfolding supertypesOf
+  no-names q = supers-sought (treeAt s at e) ∙ ap supertypesOf (met-none m q)
+
+  pub its-names : (t a b : ℕ) → h ≡ Field t a b → supertypesOf (treeAt s at e) ≡ some (namesOf (treeAt s a b))
+  its-names t a b q =
+      let x = met m t a b q in
+      let z : t ≡ 0x34 = omega (arith, x .from, x .to) in
+      supers-sought (treeAt s at e) ∙ ap supertypesOf (x .seeks ∙ ap (λ (u : ℕ). fieldThen s u a b (treeAt s b e)) z) ∙ supers-front s a b (omega (arith, x .behind)) (treeAt s b e)
+
 -- ---- `subtypes_of`
 
 module _ (s : List ℕ) (at e used : ℕ) (w₀ : List ℕ) (R : Room (itemSize Subtypes (treeAt s at e)) (itemLevel Subtypes (treeAt s at e)) used w₀) (h : Header) (m : Meets s at e 0x34 0x34 h) where
   pub sub-skip : (rd : Reading) (xs : List Schema) (w : List ℕ) → h ≡ Passes → Kept (itemKept rd xs Subtypes (schemaNamed w) 0 (treeAt s at e)) (toldFilled (To used)) used w₀ w₀
-  unfolding itemKept supersOf through toldFilled supertypesOf
-  sub-skip rd xs w q = let z = supers-sought (treeAt s at e) ∙ ap supertypesOf (met-none m q) in kept-none used w₀ (R .front) (λ cs. rw z refl)
+  unfolding itemKept supersOf through toldFilled
+  sub-skip rd xs w q = let z = no-names s at e h m q in kept-none used w₀ (R .front) (λ cs. rw z refl)
 
   module _ (t a b : ℕ) (q : h ≡ Field t a b) where
-    its-names : supertypesOf (treeAt s at e) ≡ some (namesOf (treeAt s a b))
-    its-names =
-        let x = met m t a b q in
-        let z : t ≡ 0x34 = omega (arith, x .from, x .to) in
-        supers-sought (treeAt s at e) ∙ ap supertypesOf (x .seeks ∙ ap (λ (u : ℕ). fieldThen s u a b (treeAt s b e)) z) ∙ supers-front s a b (omega (arith, x .behind)) (treeAt s b e)
-
     pub sub-in : Within s at e → Within s a b
     sub-in W = let x = met m t a b q in record { short = W .short; rising = x .rising; within = omega (arith, x .within, W .within) }
 
     pub sub-room : Room (length (namesOf (treeAt s a b))) 0 used w₀
     unfolding itemSize itemLevel supersOf
-    sub-room = less-room R (rw its-names (le-refl (length (namesOf (treeAt s a b))))) (le-refl 0)
+    sub-room = less-room R (rw (its-names s at e h m t a b q) (le-refl (length (namesOf (treeAt s a b))))) (le-refl 0)
 
     pub sub-made : (rd : Reading) (xs : List Schema) (w : List ℕ) (own : ℕ) → own ≡ ownNumber rd xs (schemaNamed w) (entityOf 0 (treeAt s at e)) → (r : Answer ℕ) (w₁ : List ℕ)
         → Kept (through (superKept rd xs (schemaScope w) own) (namesOf (treeAt s a b))) r used w₀ w₁ → Kept (itemKept rd xs Subtypes (schemaNamed w) 0 (treeAt s at e)) r used w₀ w₁
     unfolding itemKept supersOf scopeIn schemaNamed schemaScope
-    sub-made rd xs w own O r w₁ K = kept-same _ (λ cs. sym (rw (its-names, O) refl)) K
+    sub-made rd xs w own O r w₁ K = kept-same _ (λ cs. sym (rw (its-names s at e h m t a b q, O) refl)) K
 
 pub ruleset subtyping = (sub-skip, sub-in, sub-room, sub-made)

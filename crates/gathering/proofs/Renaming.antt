@@ -5,20 +5,24 @@ use mathlib.Core.Bool.{Bool}
 use mathlib.Core.Option.{Option, none, some}
 use Rattle.refusal.specs.MeaningAnswer.{Answer, done, mapped, _>>=_}
 use Rattle.complex_entity.specs.MeaningSets.{_∈_}
-use Rattle.sheet.specs.MeaningReading.{Reading}
+use Rattle.grammar.specs.MeaningReading.{Reading}
 use Rattle.sheet.specs.MeaningName.{Name}
 use Rattle.schemas.specs.MeaningSchemas.{Entity, Constraint, Schema}
 use Rattle.scope.specs.MeaningScope.{Scope}
 use Rattle.expression.specs.MeaningExpression.{Expr, Terms}
 use Rattle.expression.specs.MeaningExpression.Expr.{reference, andor, «and», oneof}
 use Rattle.expression.specs.MeaningExpression.Terms.{end, _then_}
-use Rattle.namespace.specs.MeaningNamespace.{scopeIn}
+use Rattle.declarations.specs.MeaningNamespace.{scopeIn}
 use Rattle.merging.specs.MeaningMerging.{Combined, Pair, find, vacant}
-use Rattle.merging.specs.MeaningNumbering.{mapExpr, mapTerms, mapCombined, mapPair, mapFound, GoodExpr, GoodTerms, GoodCombined, GoodPair, Each}
+use Rattle.merging.specs.MeaningNumbering.{mapExpr, mapTerms}
+use Rattle.merging.specs.MeaningRenaming.{mapCombined, mapPair, mapFound, GoodExpr, GoodTerms, GoodCombined, GoodPair, Each}
 use Rattle.merging.proofs.Renaming.{mapped-find}
-use Rattle.gathering.specs.MeaningGathering.{ruleOf, supersOf, resolvedExpr, resolvedTerms, subtype, stepC}
-use Rattle.gathering.specs.MirrorGathering.{behind, ruleKept, rulesKept, constraintKept, constraintsKept, streamsOf}
-use Rattle.gathering.proofs.Following.{Follows, has, has-not, follow-by, follow-bind, follow-through}
+use Rattle.records.specs.MeaningResolving.{ruleOf, resolvedExpr, resolvedTerms}
+use Rattle.gathering.specs.MeaningGathering.{supersOf, subtype, stepC}
+use Rattle.records.specs.MirrorRecords.{behind}
+use Rattle.gathering.specs.MirrorGathering.{ruleKept, rulesKept, constraintKept, constraintsKept, streamsOf}
+use Rattle.records.proofs.Following.{Follows, has, has-not, follow-by, follow-bind}
+use Rattle.gathering.proofs.Following.{follow-through}
 
 -- the last of a list
 pub map-last : {A B : Type 0} (g : A → B) (l : List A) (a : A) → map g l ++ (g a ∷ []) ≡ map g (l ++ (a ∷ []))

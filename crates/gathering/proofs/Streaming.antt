@@ -1,33 +1,29 @@
--- For those who read the streams: where the records stand, and that no expression in them is higher than 5.
-use mathlib.Core.Path.{_≡_, refl, sym, ap, _∙_}
-use mathlib.Core.List.{List, [], _∷_, _++_}
+-- For those who read the streams: no expression in them is higher than 5.
+use mathlib.Core.Path.{_≡_, refl, ap}
+use mathlib.Core.List.{List, [], _∷_}
 use mathlib.Core.Option.{Option, none, some}
-use Prim.Native.Nat.{ℕ, _+_, _-_, _≤_}
+use Prim.Native.Nat.{ℕ, _≤_}
 use native.Mathlib.Omega.{arith}
 use lib.Dec.{eqb}
-use lib.ListN.{length, take, drop, length-take, length-append}
-use lib.Seq.{take-at, take-add, take-take, drop-at}
 use Rattle.refusal.specs.MeaningAnswer.{Answer, done, refused, _>>=_}
 use Rattle.complex_entity.specs.MeaningSets.{_∈_, here, there}
-use Rattle.sheet.specs.MeaningReading.{Reading}
+use Rattle.grammar.specs.MeaningReading.{Reading}
 use Rattle.sheet.specs.MeaningName.{Name}
-use Rattle.sheet.proofs.Choosing.{clash}
 use Rattle.schemas.specs.MeaningSchemas.{Entity, Constraint, Schema}
 use Rattle.expression.specs.MeaningExpression.{Expr}
 use Rattle.expression.specs.MirrorNodes.{height}
-use Rattle.namespace.specs.MeaningNamespace.{scopeIn}
+use Rattle.declarations.specs.MeaningNamespace.{scopeIn}
 use Rattle.merging.specs.MeaningMerging.{Combined, Pair, find, vacant}
-use Rattle.merging.specs.MeaningNumbering.{Each}
-use Rattle.merging.specs.MirrorStream.{streamOf, pairsOf}
-use Rattle.gathering.specs.MeaningGathering.{ruleOf, resolvedExpr, stepC}
-use Rattle.gathering.specs.MirrorGathering.{level, given, highest, ruleLevel, constraintLevel, schemaLevel, Bounded, behind, ruleKept, rulesKept, constraintKept, constraintsKept, streamsOf, numberMeant, ownNumber, streams}
-use Rattle.gathering.specs.MirrorWalk.{Streamed}
-use Rattle.gathering.proofs.Following.{Follows, has, has-not, follow-kept, follow-bind, follow-through}
+use Rattle.merging.specs.MeaningRenaming.{Each}
+use Rattle.records.specs.MeaningResolving.{ruleOf, resolvedExpr}
+use Rattle.gathering.specs.MeaningGathering.{stepC}
+use Rattle.records.specs.MirrorRecords.{level, behind, numberMeant, ownNumber}
+use Rattle.gathering.specs.MirrorGathering.{given, highest, ruleLevel, constraintLevel, schemaLevel, Bounded, ruleKept, rulesKept, constraintKept, constraintsKept, streamsOf, streams}
+use Rattle.records.proofs.Following.{Follows, has, has-not, follow-kept, follow-bind}
+use Rattle.gathering.proofs.Following.{follow-through}
 use Rattle.gathering.proofs.Renaming.{each-last}
-use Rattle.gathering.proofs.Appending.{expr-sized}
+use Rattle.records.proofs.Appending.{expr-sized}
 use Rattle.gathering.proofs.Records.{rule-marked}
-
--- ---- how high
 
 abbrev pub Low : Combined ℕ → Type 0
 Low c = height (c .expr) ≤ 5
@@ -79,32 +75,3 @@ module _ (rd : Reading) (xs : List Schema) where
       by : (ds : List (Combined ℕ)) → Each Low ds → (a : Answer (List (Pair ℕ))) → Follows (λ (b : List (Combined ℕ) × List (Pair ℕ)). b) (λ b. Each Low (b .0)) (a >>= λ ps. done (ds, ps)) (a >>= λ ps. done (ds, ps))
       by ds D (done ps) = has D refl
       by ds D (refused n j) = has-not refl
-
--- ---- where the records stand
-
-pub record Parts (o : Answer (List (Combined ℕ) × List (Pair ℕ))) (n m : ℕ) (w : List ℕ) : Type 0 where
-  pub both : List (Combined ℕ) × List (Pair ℕ)
-  pub is : o ≡ done both
-  pub order : n ≤ m
-  pub within : m ≤ length w
-  pub rules : take n w ≡ streamOf (both .0)
-  pub pairs : take (m - n) (drop n w) ≡ pairsOf (both .1)
-
-pub streamed-parts : (o : Answer (List (Combined ℕ) × List (Pair ℕ))) (n m : ℕ) (w : List ℕ) → Streamed o (done (n, m)) w → Parts o n m w
-streamed-parts (refused k j) n m w S = clash (cc (S .says))
-streamed-parts (done both) n m w S =
-    let x : _≡_ {A = ℕ × ℕ} (n, m) (length (streamOf (both .0)), length (streamOf (both .0)) + length (pairsOf (both .1))) = cc (S .says) in
-    let a : n ≡ length (streamOf (both .0)) = ap (λ (p : ℕ × ℕ). p .0) x in
-    let b : m ≡ length (streamOf (both .0)) + length (pairsOf (both .1)) = ap (λ (p : ℕ × ℕ). p .1) x in
-    let t : take m w ≡ streamOf (both .0) ++ pairsOf (both .1) = rw b (S .holds both refl) in
-    let l : length (take m w) ≡ m = ap length t ∙ length-append (streamOf (both .0)) (pairsOf (both .1)) ∙ sym b in
-    let f : take n w ≡ streamOf (both .0) = sym (take-take n m w (let z : n ≤ m = omega arith in z)) ∙ ap (take n) t ∙ take-at (streamOf (both .0)) (pairsOf (both .1)) n (sym a) in
-    let e : n + (m - n) ≡ m = omega arith in
-    record {
-      both = both;
-      is = refl;
-      order = omega arith;
-      within = omega (arith, length-take m w);
-      rules = f;
-      pairs = sym (drop-at (take n w) (take (m - n) (drop n w)) n (ap length f ∙ sym a)) ∙ ap (drop n) (sym (take-add n (m - n) w) ∙ ap (λ (i : ℕ). take i w) e ∙ t) ∙ drop-at (streamOf (both .0)) (pairsOf (both .1)) n (sym a);
-    }

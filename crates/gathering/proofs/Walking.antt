@@ -1,5 +1,5 @@
 -- The passes: loops over the fields with a tag, each of which adds to the records.
-use mathlib.Core.Path.{_≡_, refl, sym, ap, _∙_, subst}
+use mathlib.Core.Path.{_≡_, refl, sym, ap, subst}
 use mathlib.Core.List.{List, [], _∷_}
 use mathlib.Core.Bool.{true}
 use mathlib.Core.Option.{Option, none, some}
@@ -7,40 +7,40 @@ use Prim.Native.Nat.{ℕ, _+_, _-_, _*_, _≤_}
 use native.Mathlib.Nat.{le-refl}
 use native.Mathlib.Omega.{arith}
 use lib.Dec.{eqb}
-use lib.ListN.{length, take, drop}
+use lib.ListN.{length}
 use Rattle.refusal.specs.MeaningAnswer.{Answer, done, refused, _>>=_}
 use Rattle.refusal.specs.declared.Refusal.{Refusal}
-use Rattle.sheet.specs.MeaningReading.{Reading}
+use Rattle.grammar.specs.MeaningReading.{Reading}
 use Rattle.sheet.specs.MeaningName.{Name}
-use Rattle.sheet.specs.MeaningGrammar.{kindOf, oneOf}
+use Rattle.grammar.specs.MeaningGrammar.{kindOf, oneOf}
 use Rattle.sheet.specs.declared.Header.{Header}
 use Rattle.sheet.specs.declared.Header.the-variants.{Field, Passes}
-use Rattle.sheet.proofs.Choosing.{clash}
+use Rattle.grammar.proofs.Choosing.{clash}
 use Rattle.forest.specs.MeaningPlaces.{nests}
 use Rattle.schemas.specs.MeaningTree.{Tree, treeAt, treeOf}
 use Rattle.schemas.specs.MeaningSchemas.{Schema, nameOf, exprOf, markOf, supertypesOf, entityOf, constraintOf, each}
 use Rattle.scope.specs.MeaningScope.{Scope}
 use Rattle.expression.specs.MeaningExpression.{Expr}
 use Rattle.expression.specs.MirrorNodes.{flat, height}
-use Rattle.lookup.specs.MirrorLookup.{itself, spanOf, Lies}
-use Rattle.lookup.specs.declared.Span.{Span}
-use Rattle.lookup.proofs.Names.{span-bytes}
-use Rattle.namespace.specs.MeaningNamespace.{scopeIn, itemOf, pathIn}
+use Rattle.lookup.specs.MirrorLookup.{itself}
+use Rattle.declarations.specs.MeaningNamespace.{scopeIn, itemOf, pathIn}
 use Rattle.merging.specs.MeaningMerging.{Combined, find, vacant}
 use Rattle.merging.specs.MirrorStream.{streamOf}
-use Rattle.gathering.specs.MeaningGathering.{through, ruleOf, supersOf, resolvedExpr}
-use Rattle.gathering.specs.MeaningCombined.{ownPath}
-use Rattle.gathering.specs.MirrorGathering.{size, level, given, sum, markedBy, behind, ruleKept, constraintKept, numberMeant, ownNumber}
-use Rattle.gathering.specs.MirrorWalk.{seek, fieldThen, Meets, Kept, Within, Room, schemaNamed, tagFor, superKept, itemKept, itemsKept, itemSize, itemLevel, itemsSize, itemsLevel, allSize, allLevel, toldFilled}
-use Rattle.gathering.specs.declared.Filled.{Filled}
-use Rattle.gathering.specs.declared.Filled.the-variants.{To, Refused}
+use Rattle.records.specs.MeaningResolving.{ruleOf, resolvedExpr, ownPath}
+use Rattle.gathering.specs.MeaningGathering.{through, supersOf}
+use Rattle.records.specs.MirrorRecords.{size, level, behind, numberMeant, ownNumber, Meets, Kept, Within, Room, schemaNamed, toldFilled}
+use Rattle.gathering.specs.MirrorGathering.{given, sum, markedBy, ruleKept, constraintKept}
+use Rattle.gathering.specs.MirrorWalk.{tagFor, superKept, itemKept, itemsKept, itemSize, itemLevel, itemsSize, itemsLevel, allSize, allLevel}
+use Rattle.records.specs.declared.Filled.{Filled}
+use Rattle.records.specs.declared.Filled.the-variants.{To, Refused}
 use Rattle.gathering.specs.declared.Pass.{Pass}
 use Rattle.gathering.specs.declared.Pass.the-variants.{Rules, Constraints, Subtypes}
-use Rattle.gathering.proofs.Following.{Follows, has, has-not}
-use Rattle.gathering.proofs.Appending.{expr-sized}
-use Rattle.gathering.proofs.Nodes.{size-some}
-use Rattle.gathering.proofs.Seeking.{met, met-none, each-sought, each-front}
-use Rattle.gathering.proofs.Records.{behind-length, rule-marked, kept-same}
+use Rattle.records.proofs.Following.{Follows, has, has-not}
+use Rattle.records.proofs.Appending.{expr-sized}
+use Rattle.records.proofs.Nodes.{size-some}
+use Rattle.records.proofs.Seeking.{met, fields-over, fields-parted}
+use Rattle.records.proofs.Records.{behind-length, kept-same}
+use Rattle.gathering.proofs.Records.{rule-marked}
 use Rattle.gathering.proofs.Pairs.{Going, Cheap, going-start, going-done, going-room, going-refused, going-next, oneEach, sum-ones, super-cheap}
 
 -- ---- one field, by the pass
@@ -138,7 +138,7 @@ pub record Fields (f : ℕ × Tree → List (Combined ℕ) → Answer (List (Com
   pub cheap : Cheap f c
   pub going : Going f c l (each u itself (treeAt s at e)) (each u itself (treeAt s from e)) used w₀ n w₁
 
-nests-for : (k : Pass) → nests (tagFor k) ≡ true
+pub nests-for : (k : Pass) → nests (tagFor k) ≡ true
 unfolding kindOf oneOf
 nests-for Rules = refl
 nests-for Constraints = refl
@@ -168,20 +168,13 @@ all-start rd xs k s used w₀ h R =
 
 module _ (f : ℕ × Tree → List (Combined ℕ) → Answer (List (Combined ℕ))) (c l : ℕ × Tree → ℕ) (u tag : ℕ) (s : List ℕ) (at e used : ℕ) (w₀ : List ℕ) (from n : ℕ) (w₁ : List ℕ)
     (G : Fields f c l u tag s at e used w₀ from n w₁) (h : Header) (m : Meets s from e tag tag h) where
-  sought-so : each u itself (treeAt s from e) ≡ each u itself (seek tag tag (treeAt s from e))
-  sought-so = rw (G .tagged) (each-sought u itself (treeAt s from e))
-
   pub fields-none : h ≡ Passes → Kept (through f (each u itself (treeAt s at e))) (toldFilled (To n)) used w₀ w₁
-  unfolding toldFilled each
-  fields-none q = going-done f c l (each u itself (treeAt s at e)) used w₀ (each u itself (treeAt s from e)) n w₁ (G .going) (sought-so ∙ ap (each u itself) (met-none m q))
+  unfolding toldFilled
+  fields-none q = going-done f c l (each u itself (treeAt s at e)) used w₀ (each u itself (treeAt s from e)) n w₁ (G .going) (fields-over u tag (G .nested) (G .tagged) s from e h m q)
 
   module _ (t a b : ℕ) (q : h ≡ Field t a b) where
     parted : each u itself (treeAt s from e) ≡ (a - 3, treeAt s a b) ∷ each u itself (treeAt s b e)
-    unfolding itself
-    parted =
-        let x = met m t a b q in
-        let z : t ≡ u = omega (arith, x .from, x .to, G .tagged) in
-        sought-so ∙ ap (each u itself) (x .seeks ∙ ap (λ (v : ℕ). fieldThen s v a b (treeAt s b e)) z) ∙ each-front s a b (omega (arith, x .behind)) (treeAt s b e) u itself (G .nested)
+    parted = fields-parted u tag (G .nested) (G .tagged) s from e h m t a b q
 
     pub fields-place : 3 ≤ a
     fields-place = omega (arith, met m t a b q .behind)
@@ -226,11 +219,3 @@ pub ruleset walking = (items-start, all-start, fields-none, fields-place, fields
 pub whole-kept : (f : ℕ × Tree → List (Combined ℕ) → Answer (List (Combined ℕ))) (u : ℕ) (s : List ℕ) (r : Answer ℕ) (used : ℕ) (w₀ w₁ : List ℕ) → Kept (through f (each u itself (treeAt s 0 (length s)))) r used w₀ w₁ → Kept (through f (each u itself (treeOf s))) r used w₀ w₁
 unfolding treeOf
 whole-kept f u s r used w₀ w₁ K = K
-
--- ---- the name of a schema is the scope in it
-
-pub named-so : (rd : Reading) (xs : List Schema) (k : Pass) (s : List ℕ) (t : Tree) (i : Span) → i ≡ spanOf (nameOf t) → Lies s (nameOf t) → (r : Answer ℕ) (used : ℕ) (w₀ w₁ : List ℕ)
-    → Kept (itemsKept rd xs k (take (i .stop - i .start) (drop (i .start) s)) t) r used w₀ w₁ → Kept (itemsKept rd xs k (nameOf t .bytes) t) r used w₀ w₁
-named-so rd xs k s t i I L r used w₀ w₁ K = subst (λ (w : List ℕ). Kept (itemsKept rd xs k w t) r used w₀ w₁) (span-bytes s (nameOf t) i I L) K
-
-pub ruleset naming = (named-so)

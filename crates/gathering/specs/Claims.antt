@@ -1,18 +1,16 @@
 -- What is proved of gathering, to be read without the proofs: each claim is a type, and proofs/Proved.antt has a member of each.
-use Prim.Native.Nat.{ℕ, _<_}
 use mathlib.Core.Path.{_≡_}
 use mathlib.Core.List.{List}
 use mathlib.Core.Option.{some}
-use lib.ListN.{length}
-use Rattle.refusal.specs.MeaningAnswer.{Answer, done}
+use Rattle.refusal.specs.MeaningAnswer.{done}
 use Rattle.complex_entity.specs.MeaningSets.{_∈_}
-use Rattle.sheet.specs.MeaningReading.{Reading}
+use Rattle.grammar.specs.MeaningReading.{Reading}
 use Rattle.schemas.specs.MeaningSchemas.{Schema}
 use Rattle.scope.specs.MeaningScope.{Path}
 use Rattle.expression.specs.MeaningExpression.{Expr, Terms}
 use Rattle.expression.specs.MeaningExpression.Expr.{reference, andor, «and», oneof}
 use Rattle.expression.specs.MeaningExpression.Terms.{end, _then_}
-use Rattle.namespace.specs.MeaningNamespace.{Declaration, declarationFor}
+use Rattle.declarations.specs.MeaningNamespace.{Declaration, declarationFor}
 use Rattle.merging.specs.MeaningMerging.{Combined}
 use Rattle.gathering.specs.MeaningCombined.{supertypes}
 

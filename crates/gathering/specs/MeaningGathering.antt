@@ -1,32 +1,21 @@
 -- Gathering: steps b, d and c over the schemas of a sheet.
-use Prim.Native.Nat.{ℕ}
 use mathlib.Core.List.{List, [], _∷_, _++_}
 use mathlib.Core.Bool.{Bool}
 use mathlib.Core.Option.{Option, none, some}
-use Rattle.refusal.specs.MeaningAnswer.{Answer, done, refused, mapped, _>>=_}
-use Rattle.sheet.specs.MeaningReading.{Reading}
-use Rattle.sheet.specs.MeaningReading.Reading.{rust}
-use Rattle.sheet.specs.MeaningName.{Name}
-use Rattle.schemas.specs.MeaningSchemas.{Mark, Entity, Constraint, Schema}
-use Rattle.schemas.specs.MeaningSchemas.Mark.{unmarked, rule, abstract-entity, abstract-supertype}
-use Rattle.scope.specs.MeaningScope.{Scope}
-use Rattle.expression.specs.MeaningExpression.{Expr, Terms}
-use Rattle.expression.specs.MeaningExpression.Expr.{reference, andor, «and», oneof}
-use Rattle.expression.specs.MeaningExpression.Terms.{end, _then_}
-use Rattle.namespace.specs.MeaningNamespace.{scopeIn}
+use Rattle.refusal.specs.MeaningAnswer.{Answer, done, _>>=_}
+use Rattle.expression.specs.MeaningExpression.{Expr}
 use Rattle.merging.specs.MeaningMerging.{Combined, Pair, entered, merged, withSubtypes}
+use Rattle.grammar.specs.MeaningReading.{Reading}
+use Rattle.sheet.specs.MeaningName.{Name}
+use Rattle.scope.specs.MeaningScope.{Scope}
+use Rattle.schemas.specs.MeaningSchemas.{Entity, Constraint, Schema}
+use Rattle.declarations.specs.MeaningNamespace.{scopeIn}
+use Rattle.records.specs.MeaningResolving.{resolvedExpr, ruleOf}
 
 -- one after the other; a refusal ends it
 unfoldable pub through : {A G : Type 0} → (A → G → Answer G) → List A → G → Answer G
 through f [] g = done g
 through f (x ∷ xs) g = f x g >>= λ h. through f xs h
-
--- "each field 31 gives its entity an expression .. Fields 32 and 33 give nothing."
-unfoldable pub ruleOf : Reading → Mark → Option (Expr Name)
-ruleOf rust unmarked = none
-ruleOf rust (rule e) = some e
-ruleOf rust abstract-entity = none
-ruleOf rust (abstract-supertype o) = none
 
 -- the names in SUBTYPE OF
 unfoldable pub supersOf : Option (List Name) → List Name
@@ -35,22 +24,10 @@ supersOf (some ns) = ns
 
 -- what names stand for is left open: when two are the same, what a name means in a scope, and what an entity is itself
 module _ {N : Type 0} (same : N → N → Bool) (means : Scope → Name → Answer N) (itself : Schema → Entity → N) where
-  -- an expression with its names resolved, from left to right
-  unfoldable mutual
-    pub resolvedExpr : Scope → Expr Name → Answer (Expr N)
-    resolvedExpr sc (reference x) = mapped reference (means sc x)
-    resolvedExpr sc (andor t) = mapped andor (resolvedTerms sc t)
-    resolvedExpr sc («and» t) = mapped «and» (resolvedTerms sc t)
-    resolvedExpr sc (oneof t) = mapped oneof (resolvedTerms sc t)
-
-    pub resolvedTerms : Scope → Terms Name → Answer (Terms N)
-    resolvedTerms sc end = done end
-    resolvedTerms sc (e then t) = resolvedExpr sc e >>= λ d. mapped (λ u. d then u) (resolvedTerms sc t)
-
   -- step b: "names are resolved first, then a second one for the same path is refused", at the "second entity's field 30"
   unfoldable pub ruled : Schema → Entity → Option (Expr Name) → List (Combined N) → Answer (List (Combined N))
   ruled x e none g = done g
-  ruled x e (some r) g = resolvedExpr (scopeIn x) r >>= λ d. entered same (e .place) (itself x e) d g
+  ruled x e (some r) g = resolvedExpr same means itself (scopeIn x) r >>= λ d. entered same (e .place) (itself x e) d g
 
   unfoldable pub stepB : Reading → List Schema → List (Combined N) → Answer (List (Combined N))
   stepB rd xs g = through (λ x. through (λ e. ruled x e (ruleOf rd (e .mark))) (x .entities)) xs g
@@ -58,7 +35,7 @@ module _ {N : Type 0} (same : N → N → Bool) (means : Scope → Name → Answ
   -- step d: "each field 40 with an expression resolves its entity, then its expression, and merges. Without an expression it is skipped, even if its entity is unknown."
   unfoldable pub constrained : Schema → Constraint → Option (Expr Name) → List (Combined N) → Answer (List (Combined N))
   constrained x c none g = done g
-  constrained x c (some e) g = means (scopeIn x) (c .entity) >>= λ p. resolvedExpr (scopeIn x) e >>= λ d. done (merged same p d g)
+  constrained x c (some e) g = means (scopeIn x) (c .entity) >>= λ p. resolvedExpr same means itself (scopeIn x) e >>= λ d. done (merged same p d g)
 
   unfoldable pub stepD : List Schema → List (Combined N) → Answer (List (Combined N))
   stepD xs g = through (λ x. through (λ c. constrained x c (c .expr)) (x .constraints)) xs g

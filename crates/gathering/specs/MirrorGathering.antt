@@ -1,50 +1,24 @@
 -- Gathering without merging: the records as they come. And how much there is to gather.
-use Prim.Native.Nat.{ℕ, suc, _+_, _≤_, max}
-use mathlib.Core.List.{List, [], _∷_, _++_}
+use Prim.Native.Nat.{ℕ, _+_, _≤_, max}
+use mathlib.Core.List.{List, [], _∷_}
 use mathlib.Core.Bool.{Bool}
 use mathlib.Core.Option.{Option, none, some}
 use lib.Dec.{eqb}
 use lib.ListN.{length}
-use Rattle.refusal.specs.MeaningAnswer.{Answer, done, mapped, _>>=_}
-use Rattle.sheet.specs.MeaningReading.{Reading}
+use Rattle.refusal.specs.MeaningAnswer.{Answer, done, _>>=_}
+use Rattle.expression.specs.MeaningExpression.{Expr}
+use Rattle.merging.specs.MeaningMerging.{Combined, Pair, find, vacant}
+use Rattle.grammar.specs.MeaningReading.{Reading}
 use Rattle.sheet.specs.MeaningName.{Name}
+use Rattle.scope.specs.MeaningScope.{Scope}
 use Rattle.schemas.specs.MeaningSchemas.{Mark, Entity, Constraint, Schema}
 use Rattle.schemas.specs.MeaningSchemas.Mark.{unmarked, rule, abstract-entity, abstract-supertype}
-use Rattle.scope.specs.MeaningScope.{Scope}
-use Rattle.expression.specs.MeaningExpression.{Expr, Terms}
-use Rattle.expression.specs.MeaningExpression.Expr.{reference, andor, «and», oneof}
-use Rattle.expression.specs.MeaningExpression.Terms.{end, _then_}
-use Rattle.namespace.specs.MeaningNamespace.{scopeIn}
-use Rattle.merging.specs.MeaningMerging.{Combined, Pair, find, vacant}
-use Rattle.gathering.specs.MeaningGathering.{through, ruleOf, supersOf, resolvedExpr, stepC}
-use Rattle.gathering.specs.MeaningCombined.{pathFor, ownPath, numberFor}
+use Rattle.declarations.specs.MeaningNamespace.{scopeIn}
+use Rattle.records.specs.MeaningResolving.{ruleOf, resolvedExpr}
+use Rattle.records.specs.MirrorRecords.{size, level, behind, numberMeant, ownNumber}
+use Rattle.gathering.specs.MeaningGathering.{through, supersOf, stepC}
 
 -- ---- how much there is
-
-module _ {N : Type 0} where
-  -- how many references and operators
-  unfoldable mutual
-    pub size : Expr N → ℕ
-    size (reference n) = 1
-    size (andor t) = suc (sizes t)
-    size («and» t) = suc (sizes t)
-    size (oneof t) = suc (sizes t)
-
-    pub sizes : Terms N → ℕ
-    sizes end = 0
-    sizes (e then t) = size e + sizes t
-
-  -- "expression depth .. a lone reference being 1"
-  unfoldable mutual
-    pub level : Expr N → ℕ
-    level (reference n) = 1
-    level (andor t) = suc (levels t)
-    level («and» t) = suc (levels t)
-    level (oneof t) = suc (levels t)
-
-    pub levels : Terms N → ℕ
-    levels end = 0
-    levels (e then t) = max (level e) (levels t)
 
 unfoldable pub given : {A : Type 0} → (A → ℕ) → Option A → ℕ
 given f none = 0
@@ -100,10 +74,6 @@ pub record Bounded (xs : List Schema) : Type 0 where
 
 -- ---- the records of rules and constraints, and those of names in SUBTYPE OF
 
--- one record more
-unfoldable pub behind : {N : Type 0} → List (Combined N) → N → Expr N → List (Combined N)
-behind cs p e = cs ++ (record { owner = p; expr = e } ∷ [])
-
 module _ {N : Type 0} (same : N → N → Bool) (means : Scope → Name → Answer N) (itself : Schema → Entity → N) where
   -- step b: 8 where an earlier record has the owner
   unfoldable pub ruleKept : Schema → Entity → Option (Expr Name) → List (Combined N) → Answer (List (Combined N))
@@ -126,12 +96,6 @@ module _ {N : Type 0} (same : N → N → Bool) (means : Scope → Name → Answ
   streamsOf rd xs = through (rulesKept rd) xs [] >>= λ cs. through constraintsKept xs cs >>= λ ds. stepC same means itself xs [] >>= λ ps. done (ds, ps)
 
 -- ---- over numbers
-
-unfoldable pub numberMeant : Reading → List Schema → Scope → Name → Answer ℕ
-numberMeant rd xs sc x = mapped (numberFor rd xs) (pathFor rd xs sc x)
-
-unfoldable pub ownNumber : Reading → List Schema → Schema → Entity → ℕ
-ownNumber rd xs x e = numberFor rd xs (ownPath x e)
 
 unfoldable pub streams : Reading → List Schema → Answer (List (Combined ℕ) × List (Pair ℕ))
 streams rd xs = streamsOf eqb (numberMeant rd xs) (ownNumber rd xs) rd xs

@@ -1,147 +1,33 @@
 -- How the code goes over the fields of a sheet, and what it leaves in the stream.
-use Prim.Native.Nat.{ℕ, _+_, _-_, _*_, _≤_, _<_}
+use Prim.Native.Nat.{ℕ, _+_, _≤_}
 use mathlib.Core.Path.{_≡_}
-use mathlib.Core.List.{List, [], _++_}
-use mathlib.Core.Bool.{Bool, cond}
-use mathlib.Core.Option.{Option, none, some}
-use lib.Dec.{eqb, ltb}
-use lib.ListN.{length, take, drop}
+use mathlib.Core.List.{List, [], _∷_, _++_}
+use mathlib.Core.Bool.{Bool, true, false, cond}
+use lib.Dec.{eqb}
+use lib.ListN.{length, take}
 use Rattle.refusal.specs.MeaningAnswer.{Answer, done, mapped, _>>=_}
 use Rattle.refusal.specs.Told.{toldRefusal}
-use Rattle.sheet.specs.MeaningReading.{Reading}
-use Rattle.sheet.specs.MeaningReading.Reading.{rust}
+use Rattle.expression.specs.MeaningExpression.Expr.{reference}
+use Rattle.merging.specs.MeaningMerging.{Combined, Pair}
+use Rattle.merging.specs.MirrorStream.{streamOf, pairsOf, isFound}
+use Rattle.grammar.specs.MeaningReading.{Reading}
 use Rattle.sheet.specs.MeaningName.{Name}
 use Rattle.sheet.specs.declared.Header.{Header}
 use Rattle.sheet.specs.declared.Header.the-variants.{Field, Passes}
-use Rattle.forest.specs.MeaningPlaces.{nests}
-use Rattle.schemas.specs.MeaningTree.{Tree, treeAt}
-use Rattle.schemas.specs.MeaningTree.Tree.{nil, leaf, node}
-use Rattle.schemas.specs.MeaningSchemas.{Schema, nameOf, termsOf, exprOf, markOf, supertypesOf, entityOf, constraintOf, each}
 use Rattle.scope.specs.MeaningScope.{Scope}
-use Rattle.expression.specs.MeaningExpression.{Expr, Terms}
-use Rattle.expression.specs.MeaningExpression.Expr.{reference, andor, «and», oneof}
-use Rattle.expression.specs.MirrorNodes.{flat, flats}
+use Rattle.schemas.specs.MeaningTree.{Tree, treeAt}
+use Rattle.schemas.specs.MeaningSchemas.{Schema, nameOf, exprOf, markOf, supertypesOf, entityOf, constraintOf, each}
 use Rattle.lookup.specs.MirrorLookup.{itself}
-use Rattle.namespace.specs.MeaningNamespace.{scopeIn}
-use Rattle.namespace.specs.MirrorNamespace.{wordOf, schemaScope}
-use Rattle.merging.specs.MeaningMerging.{Combined, Pair}
-use Rattle.merging.specs.MirrorStream.{streamOf, pairsOf}
-use Rattle.gathering.specs.MeaningGathering.{through, ruleOf, supersOf, resolvedExpr, resolvedTerms}
-use Rattle.gathering.specs.MirrorGathering.{size, level, given, sum, highest, markedBy, behind, ruleKept, constraintKept, numberMeant, ownNumber}
+use Rattle.declarations.specs.MeaningNamespace.{scopeIn}
+use Rattle.records.specs.MeaningResolving.{ruleOf}
+use Rattle.records.specs.MirrorRecords.{size, level, behind, numberMeant, ownNumber, schemaNamed}
+use Rattle.gathering.specs.MeaningGathering.{through, supersOf}
+use Rattle.gathering.specs.MirrorGathering.{given, sum, highest, markedBy, ruleKept, constraintKept}
 use Rattle.gathering.specs.declared.Pass.{Pass}
 use Rattle.gathering.specs.declared.Pass.the-variants.{Rules, Constraints, Subtypes}
-use Rattle.gathering.specs.declared.Filled.{Filled}
-use Rattle.gathering.specs.declared.Filled.the-variants.{To, Refused}
 use Rattle.gathering.specs.declared.Gathered as gathered
 
--- ---- the next field whose tag lies between two
-
--- the fields from it on
-unfoldable pub seek : (low high : ℕ) → Tree → Tree
-seek low high nil = nil
-seek low high (leaf t p v f) = cond (ltb t low) (seek low high f) (cond (ltb high t) (seek low high f) (leaf t p v f))
-seek low high (node t p g f) = cond (ltb t low) (seek low high f) (cond (ltb high t) (seek low high f) (node t p g f))
-
--- a field with its value between two places, and those behind it
-unfoldable pub fieldThen : List ℕ → (t a b : ℕ) → Tree → Tree
-fieldThen s t a b f = cond (nests t) (node t (a - 3) (treeAt s a b) f) (leaf t (a - 3) (take (b - a) (drop a s)) f)
-
-pub record Met (s : List ℕ) (at e low high t a b : ℕ) : Type 0 where
-  pub seeks : seek low high (treeAt s at e) ≡ fieldThen s t a b (treeAt s b e)
-  pub from : low ≤ t
-  pub to : t ≤ high
-  pub behind : at + 3 ≤ a
-  pub rising : a ≤ b
-  pub within : b ≤ e
-
-pub data Meets (s : List ℕ) (at e low high : ℕ) : Header → Type 0 where
-  no-more : seek low high (treeAt s at e) ≡ nil → Meets s at e low high Passes
-  next : {t a b : ℕ} → Met s at e low high t a b → Meets s at e low high (Field t a b)
-
--- ---- expressions
-
--- the name between two places
-unfoldable pub wordAt : List ℕ → (a b : ℕ) → Name
-wordAt s a b = record { at = a; bytes = take (b - a) (drop a s) }
-
--- an expression of its tag
-unfoldable pub opOf : {N : Type 0} → ℕ → Terms N → Expr N
-opOf t ts = cond (eqb t 0x51) (andor ts) (cond (eqb t 0x52) («and» ts) (oneof ts))
-
--- the expression in a field with its value between two places
-unfoldable pub exprIn : List ℕ → (t a b : ℕ) → Expr Name
-exprIn s t a b = cond (eqb t 0x50) (reference (wordAt s a b)) (opOf t (termsOf (treeAt s a b)))
-
-pub record Spelt (s : List ℕ) (o : Option (Expr Name)) (t a b : ℕ) : Type 0 where
-  pub is : o ≡ some (exprIn s t a b)
-  pub from : 0x50 ≤ t
-  pub to : t ≤ 0x53
-  pub rising : a ≤ b
-  pub within : b ≤ length s
-
--- where an expression stands, if there is one
-pub data Spells (s : List ℕ) (o : Option (Expr Name)) : Header → Type 0 where
-  no-expr : o ≡ none → Spells s o Passes
-  there : {t a b : ℕ} → Spelt s o t a b → Spells s o (Field t a b)
-
--- which marks give a rule is the reading's
-unfoldable pub givesRule : Reading → ℕ → Bool
-givesRule rust t = eqb t 0x31
-
--- ---- the stream
-
-unfoldable pub toldFilled : Filled → Answer ℕ
-toldFilled (To n) = done n
-toldFilled (Refused why) = toldRefusal why
-
--- what is answered goes behind the numbers that were used
-pub record Appends (o : Answer (List ℕ)) (r : Answer ℕ) (used : ℕ) (before after : List ℕ) : Type 0 where
-  pub says : r ≡ mapped (λ l. used + length l) o
-  pub holds : (l : List ℕ) → o ≡ done l → take (used + length l) after ≡ take used before ++ l
-
--- these records stand at the front
-pub record Stands (cs : List (Combined ℕ)) (used : ℕ) (w : List ℕ) : Type 0 where
-  pub is : take used w ≡ streamOf cs
-  pub long : used ≡ length (streamOf cs)
-
--- some do
-pub record Front (used : ℕ) (w : List ℕ) : Type 0 where
-  pub list : List (Combined ℕ)
-  pub stands : Stands list used w
-
--- what becomes of the records at the front
-pub record Kept (f : List (Combined ℕ) → Answer (List (Combined ℕ))) (r : Answer ℕ) (used : ℕ) (before after : List ℕ) : Type 0 where
-  pub list : List (Combined ℕ)
-  pub stands : Stands list used before
-  pub says : r ≡ mapped (λ cs. length (streamOf cs)) (f list)
-  pub holds : (cs : List (Combined ℕ)) → f list ≡ done cs → take (length (streamOf cs)) after ≡ streamOf cs
-
--- ---- what the functions ask
-
--- a value between two places of a sheet
-pub record Within (s : List ℕ) (at e : ℕ) : Type 0 where
-  pub short : length s ≤ 65535
-  pub rising : at ≤ e
-  pub within : e ≤ length s
-
--- room for this many nodes, and so many calls, one within the other
-pub record Deep (nodes calls used depth : ℕ) (w : List ℕ) : Type 0 where
-  pub calls-left : calls ≤ depth
-  pub room : used + 3 * nodes ≤ length w
-  pub small : length w < 65536
-
--- records stand at the front, and behind them there is room for this many terms, an owner and three of a node each, of no more than 5 levels
-pub record Room (terms depth used : ℕ) (w : List ℕ) : Type 0 where
-  pub front : Front used w
-  pub room : used + 4 * terms ≤ length w
-  pub low : depth ≤ 5
-  pub small : length w < 65536
-
 -- ---- the passes: b, d and c
-
--- a schema with the name and nothing in it: all else of a schema is handed down by its fields
-unfoldable pub schemaNamed : List ℕ → Schema
-schemaNamed w = record { place = 0; name = wordOf w; types = []; entities = []; constraints = [] }
 
 abbrev pub tagFor : Pass → ℕ
 tagFor Rules = 0x30
@@ -149,16 +35,6 @@ tagFor Constraints = 0x40
 tagFor Subtypes = 0x30
 
 module _ (rd : Reading) (xs : List Schema) where
-  unfoldable pub exprNumbers : List ℕ → Expr Name → Answer (List ℕ)
-  exprNumbers w e = mapped flat (resolvedExpr eqb (numberMeant rd xs) (ownNumber rd xs) (schemaScope w) e)
-
-  unfoldable pub termsNumbers : List ℕ → Terms Name → Answer (List ℕ)
-  termsNumbers w t = mapped flats (resolvedTerms eqb (numberMeant rd xs) (ownNumber rd xs) (schemaScope w) t)
-
-  -- a record of this owner with the expression
-  unfoldable pub recordKept : List ℕ → ℕ → Expr Name → List (Combined ℕ) → Answer (List (Combined ℕ))
-  recordKept w p e cs = resolvedExpr eqb (numberMeant rd xs) (ownNumber rd xs) (schemaScope w) e >>= λ d. done (behind cs p d)
-
   -- one name in SUBTYPE OF, as a record
   unfoldable pub superKept : Scope → ℕ → Name → List (Combined ℕ) → Answer (List (Combined ℕ))
   superKept sc own n cs = numberMeant rd xs sc n >>= λ p. done (behind cs p (reference own))
@@ -176,6 +52,32 @@ module _ (rd : Reading) (xs : List Schema) where
   -- those of each schema
   abbrev pub allKept : Pass → Tree → List (Combined ℕ) → Answer (List (Combined ℕ))
   allKept k t = through (λ (i : ℕ × Tree). itemsKept k (nameOf (i .1) .bytes) (i .1)) (each 0x01 itself t)
+
+-- ---- where there is something to resolve
+
+unfoldable pub isField : Header → Bool
+isField Passes = false
+isField (Field t a b) = true
+
+unfoldable pub isFull : {A : Type 0} → List A → Bool
+isFull [] = false
+isFull (x ∷ xs) = true
+
+-- whether the pass resolves anything in a field
+unfoldable pub gives : Reading → Pass → Tree → Bool
+gives rd Rules g = isFound (ruleOf rd (markOf g))
+gives rd Constraints g = isFound (exprOf g)
+gives rd Subtypes g = isFull (supersOf (supertypesOf g))
+
+-- the fields from the first on in which it does
+unfoldable pub giving : Reading → Pass → List (ℕ × Tree) → List (ℕ × Tree)
+giving rd k [] = []
+giving rd k (i ∷ is) = cond (gives rd k (i .1)) (i ∷ is) (giving rd k is)
+
+-- they begin there
+pub record Begins (rd : Reading) (k : Pass) (s : List ℕ) (at e from : ℕ) : Type 0 where
+  pub is : each (tagFor k) itself (treeAt s from e) ≡ giving rd k (each (tagFor k) itself (treeAt s at e))
+  pub within : from ≤ e
 
 -- ---- how much there is in a field, a schema and a sheet
 

@@ -1,34 +1,36 @@
 // Gathering: from the bytes of a sheet into a stream of records, rules first, then constraints, then names in SUBTYPE OF.
 ghost use mathlib.Core.Path.{_≡_};
 ghost use mathlib.Core.List.{[], _∷_, _++_};
-ghost use Prim.Native.Nat.{ℕ, _+_, _*_, _≤_, _<_};
+ghost use Prim.Native.Nat.{_+_, _-_, _≤_, _<_};
 ghost use lib.ListN.{length, take};
 ghost use Rattle.refusal.specs.MeaningAnswer.{mapped};
 ghost use Rattle.sheet.specs.Told.{toldReading};
 ghost use Rattle.schemas.specs.MeaningTree.{treeAt, treeOf};
-ghost use Rattle.schemas.specs.MeaningSchemas.{nameOf, namesOf, termsOf, exprOf, markOf, entityOf};
-ghost use Rattle.namespace.specs.MeaningOrder.{schemasIn};
-ghost use Rattle.namespace.specs.MirrorNamespace.{schemaScope, HomeOf};
-ghost use Rattle.namespace.specs.Told.{toldFound};
-ghost use Rattle.gathering.specs.MeaningGathering.{through, ruleOf};
-ghost use Rattle.gathering.specs.MirrorGathering.{size, sizes, level, levels, Bounded, numberMeant, ownNumber, streams};
-ghost use Rattle.gathering.specs.MirrorWalk.{Meets, wordAt, exprIn, Spells, givesRule, toldFilled, Appends, Kept, Within, Deep, Room, schemaNamed, tagFor, exprNumbers, termsNumbers, recordKept, superKept, itemKept, itemsKept, allKept, itemSize, itemLevel, itemsSize, itemsLevel, allSize, allLevel, toldGathered, Streamed};
+ghost use Rattle.schemas.specs.MeaningSchemas.{nameOf, namesOf, supertypesOf};
+ghost use Rattle.declarations.specs.MeaningNamespace.{schemasIn};
+ghost use Rattle.declarations.specs.MirrorNamespace.{schemaScope, LastSchemaOf};
+ghost use Rattle.records.specs.MirrorRecords.{toldFilled, Kept, Within, Room, schemaNamed};
+ghost use Rattle.gathering.specs.MeaningGathering.{through, supersOf};
+ghost use Rattle.gathering.specs.MirrorGathering.{Bounded, streams};
+ghost use Rattle.gathering.specs.MirrorWalk.{tagFor, isField, isFull, gives, Begins, superKept, itemKept, itemsKept, allKept, itemSize, itemLevel, itemsSize, itemsLevel, allSize, allLevel, toldGathered, Streamed};
+use declarations::Found;
+use declarations::LastSchema;
+use declarations::last_schema;
 use expression::NODE;
 use expression::REFERENCE;
 use expression::put_node;
-use lookup::Sought;
 use lookup::name_of;
 use merging::is_owner;
-use namespace::Found;
-use namespace::Home;
-use namespace::first_in;
-use namespace::home_of;
-use namespace::meant_in;
+use records::Filled;
+use records::expr_at;
+use records::next_field;
+use records::number_at;
+use records::own_number;
+use records::put_record;
+use records::rule_at;
 use refusal::Refusal;
-use scope::ScopeType;
 use sheet::Header;
 use sheet::Reading;
-use sheet::field_at;
 
 // What is gathered: rules and constraints stand at the front of the stream, names in SUBTYPE OF behind them.
 pub struct Streams {
@@ -41,12 +43,6 @@ pub enum Gathered {
     Refused(Refusal),
 }
 
-// The stream is filled so far, or why not.
-pub enum Filled {
-    To(usize),
-    Refused(Refusal),
-}
-
 // Steps b, d and c.
 pub enum Pass {
     Rules,
@@ -54,258 +50,31 @@ pub enum Pass {
     Subtypes,
 }
 
-// The calls that reading takes, one within the other: two for each of 5 levels.
-const DEPTH: usize = 10;
-
-// The next field from `at` on with a tag between two.
-fn next_field(sheet: &[u8], at: usize, end: usize, low: u8, high: u8) -> Header
-    requires { ⌜ (at ≤ end) × (end ≤ length (now sheet)) ⌝ }
-    ensures { λ r. ⌜ Meets (now (sheet .entry)) at end low high r ⌝ }
-{
-    let mut from = at;
-    loop {
-        let Header::Field { tag, start, stop } = field_at(sheet, from, end) else {
-            return Header::Passes;
-        };
-        if tag < low {
-            from = stop;
-        } else {
-            if tag <= high {
-                return Header::Field { tag, start, stop };
-            }
-            from = stop;
-        }
-    }
-}
-
-// Where the first expression of a value stands.
-fn expr_at(sheet: &[u8], at: usize, end: usize) -> Header
-    requires { ⌜ (at ≤ end) × (end ≤ length (now sheet)) ⌝ }
-    ensures { λ r. ⌜ Spells (now (sheet .entry)) (exprOf (treeAt (now (sheet .entry)) at end)) r ⌝ }
-{
-    next_field(sheet, at, end, 0x50, 0x53)
-}
-
-// Whether what a field with the tag marks an entity with is a rule.
-fn gives_rule(reading: Reading, tag: u8) -> bool
-    ensures { λ r. ⌜ r ≡ givesRule (toldReading reading) tag ⌝ }
-{
-    match reading {
-        Reading::Rust => tag == 0x31,
-    }
-}
-
-// Where the expression of an entity's rule stands.
-fn rule_at(reading: Reading, sheet: &[u8], at: usize, end: usize) -> Header
-    requires { ⌜ (at ≤ end) × (end ≤ length (now sheet)) ⌝ }
-    ensures { λ r. ⌜ Spells (now (sheet .entry)) (ruleOf (toldReading reading) (markOf (treeAt (now (sheet .entry)) at end))) r ⌝ }
-{
-    let Header::Field { tag, start, stop } = next_field(sheet, at, end, 0x31, 0x33) else {
-        return Header::Passes;
-    };
-    if gives_rule(reading, tag) {
-        return expr_at(sheet, start, stop);
-    }
-    Header::Passes
-}
-
-// The number of what the name between two places means in the schema of the name `scope`.
-fn number_at(
-    reading: Reading,
-    sheet: &[u8],
-    scope: &[u8],
-    home: Home,
-    start: usize,
-    stop: usize,
-) -> Found
-    requires { ⌜ Within (now sheet) start stop ⌝ }
-    requires { ⌜ HomeOf (toldReading reading) (now sheet) (now scope) home ⌝ }
-    ensures { λ r. ⌜ toldFound r ≡ numberMeant (toldReading reading) (schemasIn (now (sheet .entry))) (schemaScope (now (scope .entry))) (wordAt (now (sheet .entry)) start stop) ⌝ }
-{
-    let Sought::At(number) = meant_in(reading, sheet, scope, home, &sheet[start..stop]) else {
-        return Found::Refused(Refusal::at(6, start));
-    };
-    Found::Number(number as u16)
-}
-
-// The number of an entity itself, which is not resolved.
-fn own_number(
-    reading: Reading,
-    sheet: &[u8],
-    scope: &[u8],
-    home: Home,
-    at: usize,
-    end: usize,
-) -> u16
-    requires { ⌜ Within (now sheet) at end ⌝ }
-    requires { ⌜ HomeOf (toldReading reading) (now sheet) (now scope) home ⌝ }
-    ensures { λ r. ⌜ r ≡ ownNumber (toldReading reading) (schemasIn (now (sheet .entry))) (schemaNamed (now (scope .entry))) (entityOf 0 (treeAt (now (sheet .entry)) at end)) ⌝ }
-{
-    let name = name_of(sheet, at, end);
-    let start = name.start;
-    let stop = name.stop;
-    let kind = ScopeType::Entity;
-    let Sought::At(number) = first_in(reading, sheet, scope, home, kind, &sheet[start..stop]) else {
-        return 0;
-    };
-    number as u16
-}
-
-// An expression's field with its value between two places, as nodes behind those that stand at the front. The depth falls at each call, and a level takes two.
-fn read_node(
-    reading: Reading,
-    sheet: &[u8],
-    scope: &[u8],
-    home: Home,
-    tag: u8,
-    start: usize,
-    stop: usize,
-    stream: &mut [u16],
-    used: usize,
-    depth: usize,
-) -> Filled
-    requires { ⌜ Within (now sheet) start stop × (0x50 ≤ tag) × (tag ≤ 0x53) ⌝ }
-    requires { ⌜ Deep (size (exprIn (now sheet) tag start stop)) (2 * level (exprIn (now sheet) tag start stop)) used depth (now stream) ⌝ }
-    requires { ⌜ HomeOf (toldReading reading) (now sheet) (now scope) home ⌝ }
-    ensures { λ r. ⌜ Appends (exprNumbers (toldReading reading) (schemasIn (now (sheet .entry))) (now (scope .entry)) (exprIn (now (sheet .entry)) tag start stop)) (toldFilled r) used (now (stream .entry)) (now (stream .exit)) ⌝ }
-{
-    if tag == 0x50 {
-        match number_at(reading, sheet, scope, home, start, stop) {
-            Found::Number(number) => {
-                let next = put_node(stream, used, REFERENCE, number, NODE as u16);
-                return Filled::To(next);
-            }
-            Found::Refused(why) => {
-                return Filled::Refused(why);
-            }
-        }
-    }
-    let body = put_node(stream, used, (tag - 0x50) as u16, 0, 0);
-    let answer = read_terms(
-        reading,
-        sheet,
-        scope,
-        home,
-        start,
-        stop,
-        stream,
-        body,
-        depth - 1,
-    );
-    let Filled::To(next) = answer else {
-        return answer;
-    };
-    stream[used + 2] = (next - used) as u16;
-    Filled::To(next)
-}
-
-// All expressions of a value, one behind the other.
-fn read_terms(
-    reading: Reading,
-    sheet: &[u8],
-    scope: &[u8],
-    home: Home,
-    at: usize,
-    end: usize,
-    stream: &mut [u16],
-    used: usize,
-    depth: usize,
-) -> Filled
-    requires { ⌜ Within (now sheet) at end ⌝ }
-    requires { ⌜ Deep (sizes (termsOf (treeAt (now sheet) at end))) (2 * levels (termsOf (treeAt (now sheet) at end)) + 1) used depth (now stream) ⌝ }
-    requires { ⌜ HomeOf (toldReading reading) (now sheet) (now scope) home ⌝ }
-    ensures { λ r. ⌜ Appends (termsNumbers (toldReading reading) (schemasIn (now (sheet .entry))) (now (scope .entry)) (termsOf (treeAt (now (sheet .entry)) at end))) (toldFilled r) used (now (stream .entry)) (now (stream .exit)) ⌝ }
-{
-    let mut n = used;
-    let mut from = at;
-    loop {
-        let Header::Field { tag, start, stop } = next_field(sheet, from, end, 0x50, 0x53) else {
-            return Filled::To(n);
-        };
-        let answer = read_node(
-            reading,
-            sheet,
-            scope,
-            home,
-            tag,
-            start,
-            stop,
-            stream,
-            n,
-            depth - 1,
-        );
-        let Filled::To(next) = answer else {
-            return answer;
-        };
-        n = next;
-        from = stop;
-    }
-}
-
-// A record: its owner, and behind it the nodes of its expression.
-fn put_record(
-    reading: Reading,
-    sheet: &[u8],
-    scope: &[u8],
-    home: Home,
-    owner: u16,
-    tag: u8,
-    start: usize,
-    stop: usize,
-    stream: &mut [u16],
-    used: usize,
-) -> Filled
-    requires { ⌜ Within (now sheet) start stop × (0x50 ≤ tag) × (tag ≤ 0x53) ⌝ }
-    requires { ⌜ Room (size (exprIn (now sheet) tag start stop)) (level (exprIn (now sheet) tag start stop)) used (now stream) ⌝ }
-    requires { ⌜ HomeOf (toldReading reading) (now sheet) (now scope) home ⌝ }
-    ensures { λ r. ⌜ Kept (recordKept (toldReading reading) (schemasIn (now (sheet .entry))) (now (scope .entry)) owner (exprIn (now (sheet .entry)) tag start stop)) (toldFilled r) used (now (stream .entry)) (now (stream .exit)) ⌝ }
-{
-    let body = used + 1;
-    let answer = read_node(
-        reading,
-        sheet,
-        scope,
-        home,
-        tag,
-        start,
-        stop,
-        stream,
-        body,
-        DEPTH,
-    );
-    let Filled::To(next) = answer else {
-        return answer;
-    };
-    stream[used] = owner;
-    Filled::To(next)
-}
-
 // Step b, for one entity: its names are resolved first, then a second rule for the same owner is refused.
 fn rule_of(
     reading: Reading,
     sheet: &[u8],
     scope: &[u8],
-    home: Home,
-    place: usize,
+    last: LastSchema,
     at: usize,
     end: usize,
     stream: &mut [u16],
     used: usize,
 ) -> Filled
-    requires { ⌜ Within (now sheet) at end ⌝ }
+    requires { ⌜ Within (now sheet) at end × (3 ≤ at) ⌝ }
     requires { ⌜ Room (itemSize Pass.Rules (treeAt (now sheet) at end)) (itemLevel Pass.Rules (treeAt (now sheet) at end)) used (now stream) ⌝ }
-    requires { ⌜ HomeOf (toldReading reading) (now sheet) (now scope) home ⌝ }
-    ensures { λ r. ⌜ Kept (itemKept (toldReading reading) (schemasIn (now (sheet .entry))) Pass.Rules (schemaNamed (now (scope .entry))) place (treeAt (now (sheet .entry)) at end)) (toldFilled r) used (now (stream .entry)) (now (stream .exit)) ⌝ }
+    requires { ⌜ LastSchemaOf (toldReading reading) (now sheet) (now scope) last ⌝ }
+    ensures { λ r. ⌜ Kept (itemKept (toldReading reading) (schemasIn (now (sheet .entry))) Pass.Rules (schemaNamed (now (scope .entry))) (at - 3) (treeAt (now (sheet .entry)) at end)) (toldFilled r) used (now (stream .entry)) (now (stream .exit)) ⌝ }
 {
     let Header::Field { tag, start, stop } = rule_at(reading, sheet, at, end) else {
         return Filled::To(used);
     };
-    let owner = own_number(reading, sheet, scope, home, at, end);
+    let owner = own_number(reading, sheet, scope, last, at, end);
     let answer = put_record(
         reading,
         sheet,
         scope,
-        home,
+        last,
         owner,
         tag,
         start,
@@ -316,6 +85,7 @@ fn rule_of(
     let Filled::To(next) = answer else {
         return answer;
     };
+    let place = at - 3;
     if is_owner(&stream[..used], owner) {
         return Filled::Refused(Refusal::at(8, place));
     }
@@ -327,7 +97,7 @@ fn constraint_of(
     reading: Reading,
     sheet: &[u8],
     scope: &[u8],
-    home: Home,
+    last: LastSchema,
     at: usize,
     end: usize,
     stream: &mut [u16],
@@ -335,7 +105,7 @@ fn constraint_of(
 ) -> Filled
     requires { ⌜ Within (now sheet) at end ⌝ }
     requires { ⌜ Room (itemSize Pass.Constraints (treeAt (now sheet) at end)) (itemLevel Pass.Constraints (treeAt (now sheet) at end)) used (now stream) ⌝ }
-    requires { ⌜ HomeOf (toldReading reading) (now sheet) (now scope) home ⌝ }
+    requires { ⌜ LastSchemaOf (toldReading reading) (now sheet) (now scope) last ⌝ }
     ensures { λ r. ⌜ Kept (itemKept (toldReading reading) (schemasIn (now (sheet .entry))) Pass.Constraints (schemaNamed (now (scope .entry))) 0 (treeAt (now (sheet .entry)) at end)) (toldFilled r) used (now (stream .entry)) (now (stream .exit)) ⌝ }
 {
     let Header::Field { tag, start, stop } = expr_at(sheet, at, end) else {
@@ -344,12 +114,12 @@ fn constraint_of(
     let name = name_of(sheet, at, end);
     let from = name.start;
     let to = name.stop;
-    match number_at(reading, sheet, scope, home, from, to) {
+    match number_at(reading, sheet, scope, last, from, to) {
         Found::Number(owner) => put_record(
             reading,
             sheet,
             scope,
-            home,
+            last,
             owner,
             tag,
             start,
@@ -375,7 +145,7 @@ fn put_pairs(
     reading: Reading,
     sheet: &[u8],
     scope: &[u8],
-    home: Home,
+    last: LastSchema,
     own: u16,
     at: usize,
     end: usize,
@@ -384,21 +154,16 @@ fn put_pairs(
 ) -> Filled
     requires { ⌜ Within (now sheet) at end ⌝ }
     requires { ⌜ Room (length (namesOf (treeAt (now sheet) at end))) 0 used (now stream) ⌝ }
-    requires { ⌜ HomeOf (toldReading reading) (now sheet) (now scope) home ⌝ }
+    requires { ⌜ LastSchemaOf (toldReading reading) (now sheet) (now scope) last ⌝ }
     ensures { λ r. ⌜ Kept (through (superKept (toldReading reading) (schemasIn (now (sheet .entry))) (schemaScope (now (scope .entry))) own) (namesOf (treeAt (now (sheet .entry)) at end))) (toldFilled r) used (now (stream .entry)) (now (stream .exit)) ⌝ }
 {
     let mut n = used;
     let mut from = at;
     loop {
-        let Header::Field {
-            tag: _,
-            start,
-            stop,
-        } = next_field(sheet, from, end, 0x10, 0x10)
-        else {
+        let Header::Field { start, stop, .. } = next_field(sheet, from, end, 0x10, 0x10) else {
             return Filled::To(n);
         };
-        match number_at(reading, sheet, scope, home, start, stop) {
+        match number_at(reading, sheet, scope, last, start, stop) {
             Found::Number(owner) => {
                 n = put_pair(stream, n, owner, own);
                 from = stop;
@@ -415,7 +180,7 @@ fn subtypes_of(
     reading: Reading,
     sheet: &[u8],
     scope: &[u8],
-    home: Home,
+    last: LastSchema,
     at: usize,
     end: usize,
     stream: &mut [u16],
@@ -423,19 +188,14 @@ fn subtypes_of(
 ) -> Filled
     requires { ⌜ Within (now sheet) at end ⌝ }
     requires { ⌜ Room (itemSize Pass.Subtypes (treeAt (now sheet) at end)) (itemLevel Pass.Subtypes (treeAt (now sheet) at end)) used (now stream) ⌝ }
-    requires { ⌜ HomeOf (toldReading reading) (now sheet) (now scope) home ⌝ }
+    requires { ⌜ LastSchemaOf (toldReading reading) (now sheet) (now scope) last ⌝ }
     ensures { λ r. ⌜ Kept (itemKept (toldReading reading) (schemasIn (now (sheet .entry))) Pass.Subtypes (schemaNamed (now (scope .entry))) 0 (treeAt (now (sheet .entry)) at end)) (toldFilled r) used (now (stream .entry)) (now (stream .exit)) ⌝ }
 {
-    let Header::Field {
-        tag: _,
-        start,
-        stop,
-    } = next_field(sheet, at, end, 0x34, 0x34)
-    else {
+    let Header::Field { start, stop, .. } = next_field(sheet, at, end, 0x34, 0x34) else {
         return Filled::To(used);
     };
-    let own = own_number(reading, sheet, scope, home, at, end);
-    put_pairs(reading, sheet, scope, home, own, start, stop, stream, used)
+    let own = own_number(reading, sheet, scope, last, at, end);
+    put_pairs(reading, sheet, scope, last, own, start, stop, stream, used)
 }
 
 // The tag of the fields that a pass goes over.
@@ -454,23 +214,63 @@ fn item(
     reading: Reading,
     sheet: &[u8],
     scope: &[u8],
-    home: Home,
+    last: LastSchema,
     pass: Pass,
-    place: usize,
     at: usize,
     end: usize,
     stream: &mut [u16],
     used: usize,
 ) -> Filled
-    requires { ⌜ Within (now sheet) at end ⌝ }
+    requires { ⌜ Within (now sheet) at end × (3 ≤ at) ⌝ }
     requires { ⌜ Room (itemSize pass (treeAt (now sheet) at end)) (itemLevel pass (treeAt (now sheet) at end)) used (now stream) ⌝ }
-    requires { ⌜ HomeOf (toldReading reading) (now sheet) (now scope) home ⌝ }
-    ensures { λ r. ⌜ Kept (itemKept (toldReading reading) (schemasIn (now (sheet .entry))) pass (schemaNamed (now (scope .entry))) place (treeAt (now (sheet .entry)) at end)) (toldFilled r) used (now (stream .entry)) (now (stream .exit)) ⌝ }
+    requires { ⌜ LastSchemaOf (toldReading reading) (now sheet) (now scope) last ⌝ }
+    ensures { λ r. ⌜ Kept (itemKept (toldReading reading) (schemasIn (now (sheet .entry))) pass (schemaNamed (now (scope .entry))) (at - 3) (treeAt (now (sheet .entry)) at end)) (toldFilled r) used (now (stream .entry)) (now (stream .exit)) ⌝ }
 {
     match pass {
-        Pass::Rules => rule_of(reading, sheet, scope, home, place, at, end, stream, used),
-        Pass::Constraints => constraint_of(reading, sheet, scope, home, at, end, stream, used),
-        Pass::Subtypes => subtypes_of(reading, sheet, scope, home, at, end, stream, used),
+        Pass::Rules => rule_of(reading, sheet, scope, last, at, end, stream, used),
+        Pass::Constraints => constraint_of(reading, sheet, scope, last, at, end, stream, used),
+        Pass::Subtypes => subtypes_of(reading, sheet, scope, last, at, end, stream, used),
+    }
+}
+
+// Where the first name in SUBTYPE OF stands.
+fn super_at(sheet: &[u8], at: usize, end: usize) -> Header
+    requires { ⌜ (at ≤ end) × (end ≤ length (now sheet)) ⌝ }
+    ensures { λ r. ⌜ isField r ≡ isFull (supersOf (supertypesOf (treeAt (now (sheet .entry)) at end))) ⌝ }
+{
+    let Header::Field { start, stop, .. } = next_field(sheet, at, end, 0x34, 0x34) else {
+        return Header::Passes;
+    };
+    next_field(sheet, start, stop, 0x10, 0x10)
+}
+
+// Where the pass begins to resolve in a field, if there is anything.
+fn given_at(reading: Reading, sheet: &[u8], pass: Pass, at: usize, end: usize) -> Header
+    requires { ⌜ (at ≤ end) × (end ≤ length (now sheet)) ⌝ }
+    ensures { λ r. ⌜ isField r ≡ gives (toldReading reading) pass (treeAt (now (sheet .entry)) at end) ⌝ }
+{
+    match pass {
+        Pass::Rules => rule_at(reading, sheet, at, end),
+        Pass::Constraints => expr_at(sheet, at, end),
+        Pass::Subtypes => super_at(sheet, at, end),
+    }
+}
+
+// The fields of the pass from the first on that gives something to resolve begin here; at the end where none does.
+fn first_given(reading: Reading, sheet: &[u8], pass: Pass, at: usize, end: usize) -> usize
+    requires { ⌜ (at ≤ end) × (end ≤ length (now sheet)) ⌝ }
+    ensures { λ r. ⌜ Begins (toldReading reading) pass (now (sheet .entry)) at end r ⌝ }
+{
+    let tag = tag_of(pass);
+    let mut from = at;
+    loop {
+        let Header::Field { start, stop, .. } = next_field(sheet, from, end, tag, tag) else {
+            return end;
+        };
+        if let Header::Field { .. } = given_at(reading, sheet, pass, start, stop) {
+            return from;
+        }
+        from = stop;
     }
 }
 
@@ -479,7 +279,7 @@ fn items(
     reading: Reading,
     sheet: &[u8],
     scope: &[u8],
-    home: Home,
+    last: LastSchema,
     pass: Pass,
     at: usize,
     end: usize,
@@ -488,34 +288,17 @@ fn items(
 ) -> Filled
     requires { ⌜ Within (now sheet) at end ⌝ }
     requires { ⌜ Room (itemsSize pass (treeAt (now sheet) at end)) (itemsLevel pass (treeAt (now sheet) at end)) used (now stream) ⌝ }
-    requires { ⌜ HomeOf (toldReading reading) (now sheet) (now scope) home ⌝ }
+    requires { ⌜ LastSchemaOf (toldReading reading) (now sheet) (now scope) last ⌝ }
     ensures { λ r. ⌜ Kept (itemsKept (toldReading reading) (schemasIn (now (sheet .entry))) pass (now (scope .entry)) (treeAt (now (sheet .entry)) at end)) (toldFilled r) used (now (stream .entry)) (now (stream .exit)) ⌝ }
 {
     let tag = tag_of(pass);
     let mut n = used;
     let mut from = at;
     loop {
-        let Header::Field {
-            tag: _,
-            start,
-            stop,
-        } = next_field(sheet, from, end, tag, tag)
-        else {
+        let Header::Field { start, stop, .. } = next_field(sheet, from, end, tag, tag) else {
             return Filled::To(n);
         };
-        let place = start - 3;
-        let answer = item(
-            reading,
-            sheet,
-            scope,
-            home,
-            pass,
-            place,
-            start,
-            stop,
-            stream,
-            n,
-        );
+        let answer = item(reading, sheet, scope, last, pass, start, stop, stream, n);
         let Filled::To(next) = answer else {
             return answer;
         };
@@ -524,7 +307,7 @@ fn items(
     }
 }
 
-// The pass over a schema, whose name is the scope of all in it.
+// The pass over a schema, whose name is the scope of all in it. The last schema of its name is looked for where there is a name to resolve.
 fn in_schema(
     reading: Reading,
     sheet: &[u8],
@@ -538,17 +321,21 @@ fn in_schema(
     requires { ⌜ Room (itemsSize pass (treeAt (now sheet) at end)) (itemsLevel pass (treeAt (now sheet) at end)) used (now stream) ⌝ }
     ensures { λ r. ⌜ Kept (itemsKept (toldReading reading) (schemasIn (now (sheet .entry))) pass (nameOf (treeAt (now (sheet .entry)) at end) .bytes) (treeAt (now (sheet .entry)) at end)) (toldFilled r) used (now (stream .entry)) (now (stream .exit)) ⌝ }
 {
+    let from = first_given(reading, sheet, pass, at, end);
+    if from == end {
+        return Filled::To(used);
+    }
     let name = name_of(sheet, at, end);
     let start = name.start;
     let stop = name.stop;
-    let home = home_of(reading, sheet, &sheet[start..stop]);
+    let last = last_schema(reading, sheet, &sheet[start..stop]);
     items(
         reading,
         sheet,
         &sheet[start..stop],
-        home,
+        last,
         pass,
-        at,
+        from,
         end,
         stream,
         used,
@@ -565,12 +352,7 @@ fn walk(reading: Reading, sheet: &[u8], pass: Pass, stream: &mut [u16], used: us
     let mut n = used;
     let mut from: usize = 0;
     loop {
-        let Header::Field {
-            tag: _,
-            start,
-            stop,
-        } = next_field(sheet, from, end, 0x01, 0x01)
-        else {
+        let Header::Field { start, stop, .. } = next_field(sheet, from, end, 0x01, 0x01) else {
             return Filled::To(n);
         };
         let answer = in_schema(reading, sheet, pass, start, stop, stream, n);

@@ -4,6 +4,7 @@ use mathlib.Core.Path.{_≡_, refl, sym, ap, _∙_}
 use mathlib.Core.Logic.{inl, inr}
 use mathlib.Core.List.{List, [], _∷_, _++_}
 use native.Mathlib.Omega.{arith}
+use native.Mathlib.Nat.{pos-of-ne-zero}
 use lib.ListN.{length, getD, take, drop}
 use lib.Dec.{leb, leb→le, le→leb}
 use Rattle.refusal.specs.MeaningAnswer.{Answer, done, refused}
@@ -19,9 +20,10 @@ use Rattle.complex_entity.proofs.Choices.{grown-rising, andor-from-rising, ando
 use Rattle.instantiables.specs.declared.Instantiables.{Instantiables}
 use Rattle.instantiables.specs.declared.Listed.{Listed}
 use Rattle.instantiables.specs.declared.Listed.the-variants.{Rows, Refused}
-use Rattle.instantiables.specs.MirrorRows.{partsAt, listsAt, sum, Stands, Sets, AllSets, Listing}
+use Rattle.rows.specs.MirrorRows.{partsAt, Stands}
+use Rattle.instantiables.specs.MirrorRows.{listsAt, sum, Sets, AllSets, Listing}
 use Rattle.instantiables.specs.Told.{toldListed}
-use Rattle.instantiables.proofs.Flats.{parts-length}
+use Rattle.rows.proofs.Flats.{parts-length}
 use Rattle.instantiables.proofs.Listings.{stands-empty, Front, front-start, front-next, front-parts, listing-over, listing-refused, listing-same}
 use Rattle.instantiables.proofs.Growing.{add-longer}
 use Rattle.instantiables.proofs.Walks.{tail-is, Walking, rest, walk-start, walk-done, walk-first, walk-next, walk-room}
@@ -67,42 +69,38 @@ andor-many counts lists rows r h e =
     rw e (listing-refused _ rows rows 10 0 (andor-over (listsAt counts lists) (rw (lists-length counts lists) h)))
 
 -- ---- the loop
-pub record Choosing (counts lists rows₀ old₀ rows old : List ℕ) (n at i : ℕ) (o : Answer (List Part)) : Type 0 where
+pub record Choosing (counts lists rows₀ scratch₀ rows scratch : List ℕ) (n at i : ℕ) (o : Answer (List Part)) : Type 0 where
   pub walk : Walking counts lists at i
-  pub spare : 1664 ≤ length old
-  pub old-long : length old ≡ length old₀
+  pub spare : 1664 ≤ length scratch
+  pub scratch-long : length scratch ≡ length scratch₀
   pub front : Front rows₀ rows n
   pub sets : Sets (partsAt n rows)
   pub factors : AllSets (rest counts lists at i)
   pub whole : held (andorFrom (partsAt n rows) (rest counts lists at i)) ≡ o
 
-pub choose-start : (counts lists rows old : List ℕ) (l : Instantiables) → l ≡ record { count = 0 } → 1664 ≤ length rows → 1664 ≤ length old → 13 * sum counts ≤ length lists
+pub choose-start : (counts lists rows scratch : List ℕ) (l : Instantiables) → l ≡ record { count = 0 } → 1664 ≤ length rows → 1664 ≤ length scratch → 13 * sum counts ≤ length lists
     → AllSets (listsAt counts lists) → (length counts ≡ 0 → ⊥) → length counts ≤ 12
-    → Choosing counts lists rows old rows old (l .count) 0 0 (andorOf (listsAt counts lists))
+    → Choosing counts lists rows scratch rows scratch (l .count) 0 0 (andorOf (listsAt counts lists))
 unfolding partsAt
-choose-start counts lists rows old l e h k w s a b =
+choose-start counts lists rows scratch l e h k w s a b =
     let n : length (listsAt counts lists) ≡ length counts = lists-length counts lists in
     rw e
     (record {
       walk = walk-start counts lists w;
       spare = k;
-      old-long = refl;
+      scratch-long = refl;
       front = front-start rows 0 (stands-empty rows h);
       sets = λ q m. absurd (not-in-nil m);
       factors = s;
-      whole = ap held (andor-steps (listsAt counts lists)) ∙ sym (andor-some (listsAt counts lists) (some (length counts) a n) (omega arith));
+      whole = ap held (andor-steps (listsAt counts lists)) ∙ sym (andor-some (listsAt counts lists) (rw n (pos-of-ne-zero a)) (omega arith));
     })
-  where
-    some : (m : ℕ) → (m ≡ 0 → ⊥) → length (listsAt counts lists) ≡ m → 0 < length (listsAt counts lists)
-    some zero f g = absurd (f refl)
-    some (suc m) f g = omega arith
 
-module _ (counts lists rows₀ old₀ rows old : List ℕ) (n at i : ℕ) (o : Answer (List Part)) (f : Choosing counts lists rows₀ old₀ rows old n at i o) where
+module _ (counts lists rows₀ scratch₀ rows scratch : List ℕ) (n at i : ℕ) (o : Answer (List Part)) (f : Choosing counts lists rows₀ scratch₀ rows scratch n at i o) where
   pub choose-long : length rows ≡ length rows₀
   choose-long = f .front .long
 
-  pub choose-old : length old ≡ length old₀
-  choose-old = f .old-long
+  pub choose-scratch : length scratch ≡ length scratch₀
+  choose-scratch = f .scratch-long
 
   pub choose-stands : Stands rows n
   choose-stands = f .front .stands
@@ -152,20 +150,20 @@ module _ (counts lists rows₀ old₀ rows old : List ℕ) (n at i : ℕ) (o : A
           let z : held (andorFrom G Ts) ≡ refused 11 0 = held-less G (andorFrom G Ts) R (andor-from-rising Ts R) (andor-from-more G Ts) (x .0) in
           rw (x .1) (listing-refused o rows₀ rows′ 11 0 (sym turn ∙ z))
 
-      pub choose-next : (old′ : List ℕ) (l : Instantiables) → r ≡ Rows l → length old′ ≡ length old
-          → Choosing counts lists rows₀ old₀ rows′ old′ (l .count) (at + 13 * getD counts i 0) (i + 1) o
+      pub choose-next : (scratch′ : List ℕ) (l : Instantiables) → r ≡ Rows l → length scratch′ ≡ length scratch
+          → Choosing counts lists rows₀ scratch₀ rows′ scratch′ (l .count) (at + 13 * getD counts i 0) (i + 1) o
       unfolding T G Ts
-      choose-next old′ l u m =
+      choose-next scratch′ l u m =
           let R : Rising order G = grown-rising (partsAt n rows) T in
           let p : partsAt (l .count) rows′ ≡ G = front-parts rows₀ rows rows′ n (f .front) G R longer (toldListed r) g (l .count) (ap toldListed u) in
           record {
             walk = walk-next counts lists at i (f .walk) h;
             spare = omega (arith, f .spare);
-            old-long = m ∙ f .old-long;
+            scratch-long = m ∙ f .scratch-long;
             front = front-next rows₀ rows rows′ n (f .front) G R longer (toldListed r) g (l .count) (ap toldListed u);
             sets = rw p (grown-sets (partsAt n rows) T (f .sets) choose-factor);
             factors = λ K m. f .factors K (rw first (there m));
             whole = ap (λ (t : List Part). held (andorFrom t Ts)) p ∙ turn;
           }
 
-pub ruleset choosing = (andor-none, andor-many, choose-start, choose-long, choose-old, choose-stands, choose-sets, choose-done, walk-room, choose-factor, choose-over, choose-next)
+pub ruleset choosing = (andor-none, andor-many, choose-start, choose-long, choose-scratch, choose-stands, choose-sets, choose-done, walk-room, choose-factor, choose-over, choose-next)

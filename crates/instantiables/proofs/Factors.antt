@@ -19,9 +19,10 @@ use Rattle.complex_entity.proofs.Limits.{held-less}
 use Rattle.instantiables.specs.declared.Instantiables.{Instantiables}
 use Rattle.instantiables.specs.declared.Listed.{Listed}
 use Rattle.instantiables.specs.declared.Listed.the-variants.{Rows, Refused}
-use Rattle.instantiables.specs.MirrorRows.{partsAt, Stands, Sets, Listing}
+use Rattle.rows.specs.MirrorRows.{partsAt, Stands}
+use Rattle.instantiables.specs.MirrorRows.{Sets, Listing}
 use Rattle.instantiables.specs.Told.{toldListed}
-use Rattle.instantiables.proofs.Flats.{parts-length, parts-narrow, parts-flat, flat-length}
+use Rattle.rows.proofs.Flats.{parts-length, parts-narrow, parts-flat, flat-length}
 use Rattle.instantiables.proofs.Listings.{stands-empty, put-stands, listing-got, listing-parts, listing-over, listing-refused}
 use Rattle.instantiables.proofs.Growing.{Growing, grow-start, grow-next, grow-over, grow-last}
 
@@ -38,22 +39,22 @@ module _ (rows : List ℕ) (l : Instantiables) (e : l ≡ record { count = 0 }) 
 pub ruleset crossed = (none-stands, none-joins)
 
 -- ---- a list that was copied
-module _ (rows old z : List ℕ) (count : ℕ) (h : Stands rows count) (e : old ≡ take (13 * count) rows ++ drop (13 * count) z) where
-  is-flat : old ≡ flat (partsAt count rows) ++ drop (13 * count) z
+module _ (rows scratch z : List ℕ) (count : ℕ) (h : Stands rows count) (e : scratch ≡ take (13 * count) rows ++ drop (13 * count) z) where
+  is-flat : scratch ≡ flat (partsAt count rows) ++ drop (13 * count) z
   is-flat = e ∙ ap (λ (x : List ℕ). x ++ drop (13 * count) z) (h .clean)
 
-  pub copied : partsAt count old ≡ partsAt count rows
+  pub copied : partsAt count scratch ≡ partsAt count rows
   copied =
       ap (partsAt count) is-flat
       ∙ ap (λ (k : ℕ). partsAt k (flat (partsAt count rows) ++ drop (13 * count) z)) (sym (parts-length count rows))
       ∙ parts-flat (partsAt count rows) (drop (13 * count) z) (parts-narrow count rows)
 
-  pub copied-room : 13 * count ≤ length old
+  pub copied-room : 13 * count ≤ length scratch
   copied-room =
       let a : length (flat (partsAt count rows)) ≡ 13 * length (partsAt count rows) = flat-length (partsAt count rows) (parts-narrow count rows) in
       omega (arith, a, parts-length count rows, ap length is-flat, length-append (flat (partsAt count rows)) (drop (13 * count) z))
 
-  pub copied-sets : Sets (partsAt count rows) → Sets (partsAt count old)
+  pub copied-sets : Sets (partsAt count rows) → Sets (partsAt count scratch)
   copied-sets s = rw copied s
 
 -- what was added stands
@@ -102,23 +103,23 @@ grown-is L T = tidy-same part-order (L ++ add T J) (L ++ (J ++ T)) to fro
       | inr n ↦ ∈-append-right L (add T J) (elim (∈-append-cases J T n) [ inl j ↦ add-right T J j | inr k ↦ add-left T J k ])
     ]
 
-module _ (L T : List Part) (old old₁ : List ℕ) (r : Listed) (g : Listing (held (add T (joins L T))) old old₁ (toldListed r)) where
+module _ (L T : List Part) (scratch scratch₁ : List ℕ) (r : Listed) (g : Listing (held (add T (joins L T))) scratch scratch₁ (toldListed r)) where
   K : List Part
   K = add T (joins L T)
 
   pub step-over : (rows : List ℕ) (why : Refusal) → r ≡ Refused why → Listing (held (grown L T)) rows rows (toldListed r)
   unfolding K
   step-over rows why u =
-      let x = listing-over K old old₁ (toldListed r) g (why .number) (why .place) (ap toldListed u) in
+      let x = listing-over K scratch scratch₁ (toldListed r) g (why .number) (why .place) (ap toldListed u) in
       let z : held (add L K) ≡ refused 11 0 = held-less K (add L K) (add-rising T (joins L T)) (add-rising L K) (λ q m. add-right L K m) (x .0) in
       rw (x .1) (listing-refused (held (grown L T)) rows rows 11 0 (ap held (sym (grown-is L T)) ∙ z))
 
   module _ (more : Instantiables) (u : r ≡ Rows more) where
-    pub step-done : (rows rows′ : List ℕ) (t : Answer ℕ) → Listing (held (add L (partsAt (more .count) old₁))) rows rows′ t → Listing (held (grown L T)) rows rows′ t
+    pub step-done : (rows rows′ : List ℕ) (t : Answer ℕ) → Listing (held (add L (partsAt (more .count) scratch₁))) rows rows′ t → Listing (held (grown L T)) rows rows′ t
     unfolding K
     step-done rows rows′ t x =
-        let p : partsAt (more .count) old₁ ≡ K = listing-parts K old old₁ (toldListed r) g (more .count) (ap toldListed u) in
-        let q : add L (partsAt (more .count) old₁) ≡ grown L T = ap (add L) p ∙ grown-is L T in
+        let p : partsAt (more .count) scratch₁ ≡ K = listing-parts K scratch scratch₁ (toldListed r) g (more .count) (ap toldListed u) in
+        let q : add L (partsAt (more .count) scratch₁) ≡ grown L T = ap (add L) p ∙ grown-is L T in
         rw q at x
 
 pub stands-inside : (rows : List ℕ) (count : ℕ) → Stands rows count → 13 * count ≤ length rows

@@ -20,9 +20,10 @@ use Rattle.refusal.specs.declared.Refusal.{Refusal}
 use Rattle.instantiables.specs.declared.Instantiables.{Instantiables}
 use Rattle.instantiables.specs.declared.Listed.{Listed}
 use Rattle.instantiables.specs.declared.Listed.the-variants.{Rows, Refused}
-use Rattle.instantiables.specs.MirrorRows.{partsAt, Stands, Sets, Listing}
+use Rattle.rows.specs.MirrorRows.{partsAt, Stands}
+use Rattle.instantiables.specs.MirrorRows.{Sets, Listing}
 use Rattle.instantiables.specs.Told.{toldListed}
-use Rattle.instantiables.proofs.Flats.{names-of, ahead, none-left}
+use Rattle.rows.proofs.Flats.{names-of, ahead, none-left}
 use Rattle.instantiables.proofs.Growing.{Growing, grow-start, grow-done, grow-next, grow-over, grow-wide}
 
 -- what is added for a list is what is added for each of its parts

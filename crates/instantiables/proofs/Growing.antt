@@ -12,8 +12,9 @@ use Rattle.complex_entity.proofs.Sets.{subset-length}
 use Rattle.complex_entity.proofs.Orders.{part-order}
 use Rattle.complex_entity.proofs.Members.{add-left, add-right, add-rising, add-nil, add-steps}
 use Rattle.complex_entity.proofs.Limits.{held-wide, held-grows}
-use Rattle.instantiables.specs.MirrorRows.{partsAt, Stands, Listing}
-use Rattle.instantiables.proofs.Flats.{parts-length}
+use Rattle.rows.specs.MirrorRows.{partsAt, Stands}
+use Rattle.instantiables.specs.MirrorRows.{Listing}
+use Rattle.rows.proofs.Flats.{parts-length}
 use Rattle.instantiables.proofs.Listings.{Front, front-start, front-next, front-parts, front-last, listing-over, listing-refused, listing-same}
 
 pub record Growing (rows₀ rows : List ℕ) (n : ℕ) (rest : List Part) (o : Answer (List Part)) : Type 0 where

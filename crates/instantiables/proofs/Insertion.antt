@@ -21,14 +21,15 @@ use Rattle.complex_entity.proofs.Sets.{not-in-nil}
 use Rattle.complex_entity.proofs.Limits.{Narrow, held-done, held-many}
 use Rattle.complex_entity.proofs.Names.{names-few}
 use Rattle.complex_entity.proofs.Rows.{row-long}
-use Rattle.instantiables.specs.declared.Spot.{Spot}
-use Rattle.instantiables.specs.declared.Spot.the-variants.{Found, Gap}
+use Rattle.rows.specs.declared.Spot.{Spot}
+use Rattle.rows.specs.declared.Spot.the-variants.{Found, Gap}
 use Rattle.instantiables.specs.declared.Listed.{Listed}
 use Rattle.instantiables.specs.declared.Listed.the-variants.{Refused}
-use Rattle.instantiables.specs.MirrorRows.{partsAt, Stands, Put, Listing}
-use Rattle.instantiables.specs.MirrorLists.{further, placeOf}
+use Rattle.rows.specs.MirrorRows.{partsAt, Stands, Put}
+use Rattle.instantiables.specs.MirrorRows.{Listing}
+use Rattle.rows.specs.MirrorLists.{further, placeOf}
 use Rattle.instantiables.specs.Told.{toldListed}
-use Rattle.instantiables.proofs.Flats.{parts-length, parts-narrow, flat-cons, flat-append, flat-take, flat-drop}
+use Rattle.rows.proofs.Flats.{parts-length, parts-narrow, flat-cons, flat-append, flat-take, flat-drop}
 use Rattle.instantiables.proofs.Listings.{listing-same, listing-refused, listing-done}
 
 -- R is the list L with p in it

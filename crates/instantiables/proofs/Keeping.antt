@@ -18,8 +18,9 @@ use Rattle.complex_entity.proofs.Sets.{not-in-nil}
 use Rattle.complex_entity.proofs.Members.{∈-append-cases}
 use Rattle.complex_entity.proofs.Limits.{Narrow}
 use Rattle.complex_entity.proofs.Rows.{part-at-few, row-long}
-use Rattle.instantiables.specs.MirrorRows.{partsAt, Put, Listing}
-use Rattle.instantiables.proofs.Flats.{names-of, ahead, none-left, flat-append, flat-length}
+use Rattle.rows.specs.MirrorRows.{partsAt, Put}
+use Rattle.instantiables.specs.MirrorRows.{Listing}
+use Rattle.rows.proofs.Flats.{names-of, ahead, none-left, flat-append, flat-length}
 use Rattle.instantiables.proofs.Listings.{put-past, listing-done}
 
 -- n rows are kept and stand in front; what is left is as it was; l is all that is kept in the end

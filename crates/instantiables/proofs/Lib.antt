@@ -1,8 +1,5 @@
-pub mod Shifts
-pub mod Flats
 pub mod Listings
 pub mod Growing
-pub mod Halving
 pub mod Insertion
 pub mod Seeking
 pub mod Keeping

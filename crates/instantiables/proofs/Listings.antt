@@ -13,8 +13,9 @@ use Rattle.complex_entity.specs.MeaningRows.{rowOf, flat}
 use Rattle.complex_entity.specs.MirrorParts.{namesOf, partOf}
 use Rattle.complex_entity.specs.declared.PartialComplexEntity.{PartialComplexEntity}
 use Rattle.complex_entity.proofs.Limits.{Narrow, Held, is-held, is-over, held-view, held-done}
-use Rattle.instantiables.specs.MirrorRows.{partsAt, Stands, Put, PutIf, Listing}
-use Rattle.instantiables.proofs.Flats.{names-of, parts-length, parts-narrow, parts-flat, flat-length}
+use Rattle.rows.specs.MirrorRows.{partsAt, Stands, Put}
+use Rattle.instantiables.specs.MirrorRows.{PutIf, Listing}
+use Rattle.rows.proofs.Flats.{names-of, parts-length, parts-narrow, parts-flat, flat-length}
 
 -- what is past some rows is as it was, so what is past more is too
 pub past-more : (rows rows₀ : List ℕ) (n k : ℕ) → n ≤ k → drop (13 * n) rows ≡ drop (13 * n) rows₀ → drop (13 * k) rows ≡ drop (13 * k) rows₀

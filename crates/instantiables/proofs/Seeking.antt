@@ -5,36 +5,19 @@ use mathlib.Core.List.{List}
 use mathlib.Core.Bool.{Bool, true, false, _||_}
 use native.Mathlib.Omega.{arith}
 use lib.ListN.{length, drop}
-use lib.Dec.{isEq}
-use Rattle.complex_entity.specs.MeaningParts.{Part, order, contains}
-use Rattle.complex_entity.specs.MeaningLists.{any, equal}
+use Rattle.complex_entity.specs.MeaningParts.{Part, contains}
+use Rattle.complex_entity.specs.MeaningLists.{any}
 use Rattle.complex_entity.specs.MirrorParts.{namesOf, partOf, partAt}
-use Rattle.complex_entity.specs.Told.{toldOrder}
 use Rattle.complex_entity.specs.declared.PartialComplexEntity.{PartialComplexEntity}
-use Rattle.complex_entity.specs.declared.Order.{Order}
-use Rattle.complex_entity.specs.declared.Order.the-variants.{Less, Same, More}
-use Rattle.instantiables.specs.MirrorRows.{partsAt}
-use Rattle.instantiables.proofs.Flats.{names-of, ahead, none-left}
+use Rattle.rows.specs.MirrorRows.{partsAt}
+use Rattle.rows.proofs.Flats.{names-of, ahead, none-left}
 
 -- ---- the tests, as the code makes them
-module _ (p q : Part) where
-  module _ (t : Order) (e : toldOrder t ≡ order p q) where
-    pub equal-yes : t ≡ Same → true ≡ equal p q
-    equal-yes g = ap isEq (sym (ap toldOrder g) ∙ e)
-
-    pub equal-less : t ≡ Less → false ≡ equal p q
-    equal-less g = ap isEq (sym (ap toldOrder g) ∙ e)
-
-    pub equal-more : t ≡ More → false ≡ equal p q
-    equal-more g = ap isEq (sym (ap toldOrder g) ∙ e)
-
-  pub contains-read : (x : PartialComplexEntity) (b v : Bool) → x ≡ partOf q → b ≡ contains p (namesOf x) → b ≡ v → contains p q ≡ v
-  contains-read x b v e h g = ap (contains p) (sym (names-of q x e)) ∙ sym h ∙ g
+pub contains-read : (p q : Part) (x : PartialComplexEntity) (b v : Bool) → x ≡ partOf q → b ≡ contains p (namesOf x) → b ≡ v → contains p q ≡ v
+contains-read p q x b v e h g = ap (contains p) (sym (names-of q x e)) ∙ sym h ∙ g
 
 pub told-test : (b t v : Bool) → b ≡ t → b ≡ v → t ≡ v
 told-test b t v h g = sym h ∙ g
-
-pub ruleset equals = (equal-yes, equal-less, equal-more)
 
 -- ---- the loop: what is left decides
 pub record Seeking (f : Part → Bool) (rows : List ℕ) (at left : ℕ) (r : Bool) : Type 0 where

@@ -17,9 +17,10 @@ use Rattle.complex_entity.proofs.Limits.{held-done}
 use Rattle.instantiables.specs.declared.Instantiables.{Instantiables}
 use Rattle.instantiables.specs.declared.Listed.{Listed}
 use Rattle.instantiables.specs.declared.Listed.the-variants.{Rows, Refused}
-use Rattle.instantiables.specs.MirrorRows.{partsAt, listsAt, sum, Stands, Sets, AllSets, Listing}
+use Rattle.rows.specs.MirrorRows.{partsAt, Stands}
+use Rattle.instantiables.specs.MirrorRows.{listsAt, sum, Sets, AllSets, Listing}
 use Rattle.instantiables.specs.Told.{toldListed}
-use Rattle.instantiables.proofs.Flats.{parts-length}
+use Rattle.rows.proofs.Flats.{parts-length}
 use Rattle.instantiables.proofs.Listings.{stands-put, put-parts, put-long, put-stands, Got, listing-got, listing-over, listing-refused, listing-done}
 use Rattle.instantiables.proofs.Factors.{copied, copied-room, copied-sets}
 use Rattle.instantiables.proofs.Walks.{tail-is, Walking, rest, walk-start, walk-done, walk-first, walk-next}
@@ -58,25 +59,25 @@ module _ (L K : List Part) (Ks : List (List Part)) (o : Answer (List Part)) (w :
         rw parts (sym (ap (λ (a : Answer (List Part)). a >>= λ J. prefixes J Ks) (held-done (bitand L K) (got .small) (got .slim))) ∙ w)
 
 -- ---- the loop of `and_more`
-pub record Prefixing (counts lists rows₀ old₀ rows old : List ℕ) (n at i : ℕ) (o : Answer (List Part)) : Type 0 where
+pub record Prefixing (counts lists rows₀ scratch₀ rows scratch : List ℕ) (n at i : ℕ) (o : Answer (List Part)) : Type 0 where
   pub walk : Walking counts lists at i
-  pub spare : 1664 ≤ length old
+  pub spare : 1664 ≤ length scratch
   pub long : length rows ≡ length rows₀
-  pub old-long : length old ≡ length old₀
+  pub old-long : length scratch ≡ length scratch₀
   pub stands : Stands rows n
   pub sets : Sets (partsAt n rows)
   pub terms : AllSets (rest counts lists at i)
   pub whole : prefixes (partsAt n rows) (rest counts lists at i) ≡ o
 
-pub prefix-start : (counts lists rows old : List ℕ) (n : ℕ) → Stands rows n → 1664 ≤ length old → 13 * sum counts ≤ length lists → Sets (partsAt n rows) → AllSets (listsAt counts lists)
-    → Prefixing counts lists rows old rows old n 0 0 (prefixes (partsAt n rows) (listsAt counts lists))
-prefix-start counts lists rows old n h k w s t = record { walk = walk-start counts lists w; spare = k; long = refl; old-long = refl; stands = h; sets = s; terms = t; whole = refl }
+pub prefix-start : (counts lists rows scratch : List ℕ) (n : ℕ) → Stands rows n → 1664 ≤ length scratch → 13 * sum counts ≤ length lists → Sets (partsAt n rows) → AllSets (listsAt counts lists)
+    → Prefixing counts lists rows scratch rows scratch n 0 0 (prefixes (partsAt n rows) (listsAt counts lists))
+prefix-start counts lists rows scratch n h k w s t = record { walk = walk-start counts lists w; spare = k; long = refl; old-long = refl; stands = h; sets = s; terms = t; whole = refl }
 
-module _ (counts lists rows₀ old₀ rows old : List ℕ) (n at i : ℕ) (o : Answer (List Part)) (f : Prefixing counts lists rows₀ old₀ rows old n at i o) where
+module _ (counts lists rows₀ scratch₀ rows scratch : List ℕ) (n at i : ℕ) (o : Answer (List Part)) (f : Prefixing counts lists rows₀ scratch₀ rows scratch n at i o) where
   pub prefix-long : length rows ≡ length rows₀
   prefix-long = f .long
 
-  pub prefix-old : length old ≡ length old₀
+  pub prefix-old : length scratch ≡ length scratch₀
   prefix-old = f .old-long
 
   pub prefix-done : length counts ≤ i → Listing o rows rows (done n)
@@ -93,46 +94,46 @@ module _ (counts lists rows₀ old₀ rows old : List ℕ) (n at i : ℕ) (o : A
     prefix-term = f .terms _ (rw first (here refl))
 
     -- the list so far was copied
-    module _ (old′ : List ℕ) (e : old′ ≡ take (13 * n) rows ++ drop (13 * n) old) where
-      pub prefix-copied : 13 * n ≤ length old′
-      prefix-copied = copied-room rows old′ old n (f .stands) e
+    module _ (scratch′ : List ℕ) (e : scratch′ ≡ take (13 * n) rows ++ drop (13 * n) scratch) where
+      pub prefix-copied : 13 * n ≤ length scratch′
+      prefix-copied = copied-room rows scratch′ scratch n (f .stands) e
 
-      pub prefix-sets : Sets (partsAt n old′)
-      prefix-sets = copied-sets rows old′ old n (f .stands) e (f .sets)
+      pub prefix-sets : Sets (partsAt n scratch′)
+      prefix-sets = copied-sets rows scratch′ scratch n (f .stands) e (f .sets)
 
-      kept : length old′ ≡ length old
+      kept : length scratch′ ≡ length scratch
       kept =
           let a : length (take (13 * n) rows) ≡ 13 * n = length-take-le (13 * n) rows (omega (arith, f .stands .small, f .stands .room)) in
-          omega (arith, ap length e, length-append (take (13 * n) rows) (drop (13 * n) old), a, length-drop (13 * n) old, f .spare, f .stands .small)
+          omega (arith, ap length e, length-append (take (13 * n) rows) (drop (13 * n) scratch), a, length-drop (13 * n) scratch, f .spare, f .stands .small)
 
       module _ (rows′ : List ℕ) (r : Listed)
-          (g : Listing (held (bitand (partsAt n old′) (partsAt (getD counts i 0) (take (length lists - at) (drop at lists))))) rows rows′ (toldListed r)) where
+          (g : Listing (held (bitand (partsAt n scratch′) (partsAt (getD counts i 0) (take (length lists - at) (drop at lists))))) rows rows′ (toldListed r)) where
         T : List Part
         T = partsAt (getD counts i 0) (take (length lists - at) (drop at lists))
 
         Ts : List (List Part)
         Ts = rest counts lists (at + 13 * getD counts i 0) (i + 1)
 
-        turn : prefixes (partsAt n old′) (T ∷ Ts) ≡ o
+        turn : prefixes (partsAt n scratch′) (T ∷ Ts) ≡ o
         unfolding T Ts
-        turn = rw (copied rows old′ old n (f .stands) e) (sym (ap (prefixes (partsAt n rows)) first) ∙ f .whole)
+        turn = rw (copied rows scratch′ scratch n (f .stands) e) (sym (ap (prefixes (partsAt n rows)) first) ∙ f .whole)
 
         pub prefix-over : (why : Refusal) → r ≡ Refused why → Listing o rows′ rows′ (toldListed r)
         unfolding T
-        prefix-over why u = term-over (partsAt n old′) T Ts o turn rows rows′ r g why u
+        prefix-over why u = term-over (partsAt n scratch′) T Ts o turn rows rows′ r g why u
 
-        pub prefix-next : (l : Instantiables) → r ≡ Rows l → Prefixing counts lists rows₀ old₀ rows′ old′ (l .count) (at + 13 * getD counts i 0) (i + 1) o
+        pub prefix-next : (l : Instantiables) → r ≡ Rows l → Prefixing counts lists rows₀ scratch₀ rows′ scratch′ (l .count) (at + 13 * getD counts i 0) (i + 1) o
         unfolding T Ts
         prefix-next l u =
             record {
               walk = walk-next counts lists at i (f .walk) h;
               spare = omega (arith, kept, f .spare);
-              long = term-long (partsAt n old′) T Ts o turn rows rows′ r g l u (f .stands .room) ∙ f .long;
+              long = term-long (partsAt n scratch′) T Ts o turn rows rows′ r g l u (f .stands .room) ∙ f .long;
               old-long = kept ∙ f .old-long;
-              stands = term-stands (partsAt n old′) T Ts o turn rows rows′ r g l u (f .stands .room);
-              sets = term-sets (partsAt n old′) T Ts o turn rows rows′ r g l u;
+              stands = term-stands (partsAt n scratch′) T Ts o turn rows rows′ r g l u (f .stands .room);
+              sets = term-sets (partsAt n scratch′) T Ts o turn rows rows′ r g l u;
               terms = λ K m. f .terms K (rw first (there m));
-              whole = term-next (partsAt n old′) T Ts o turn rows rows′ r g l u;
+              whole = term-next (partsAt n scratch′) T Ts o turn rows rows′ r g l u;
             }
 
 pub ruleset prefixing = (prefix-start, prefix-long, prefix-old, prefix-done, prefix-term, prefix-copied, prefix-sets, prefix-next, prefix-over)

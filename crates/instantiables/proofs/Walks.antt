@@ -13,7 +13,8 @@ use Rattle.complex_entity.specs.MeaningLists.{add, held, oneofOf}
 use Rattle.instantiables.specs.declared.Instantiables.{Instantiables}
 use Rattle.instantiables.specs.declared.Listed.{Listed}
 use Rattle.instantiables.specs.declared.Listed.the-variants.{Rows, Refused}
-use Rattle.instantiables.specs.MirrorRows.{partsAt, listsAt, sum, Stands, Listing}
+use Rattle.rows.specs.MirrorRows.{partsAt, Stands}
+use Rattle.instantiables.specs.MirrorRows.{listsAt, sum, Listing}
 use Rattle.instantiables.specs.Told.{toldListed}
 use Rattle.instantiables.proofs.Listings.{stands-empty}
 use Rattle.instantiables.proofs.Growing.{Growing, grow-start, grow-done, grow-next, grow-over}

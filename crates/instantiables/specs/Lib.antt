@@ -1,3 +1,2 @@
 pub mod MirrorRows
 pub mod Told
-pub mod MirrorLists

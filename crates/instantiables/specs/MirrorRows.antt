@@ -1,18 +1,12 @@
 -- Lists of parts as rows in a lent slice: what stands there before and after.
 use mathlib.Core.Path.{_≡_}
-use mathlib.Core.List.{List, [], _∷_, _++_}
-use Prim.Native.Nat.{ℕ, zero, suc, _+_, _*_, _≤_, compare}
-use lib.ListN.{length, take, drop}
+use mathlib.Core.List.{List, [], _∷_}
+use Prim.Native.Nat.{ℕ, _+_, _*_, compare}
+use lib.ListN.{length, drop}
 use Rattle.refusal.specs.MeaningAnswer.{Answer, done, refused, mapped}
 use Rattle.complex_entity.specs.MeaningSets.{_∈_, Rising}
-use Rattle.complex_entity.specs.MeaningParts.{Part, order}
-use Rattle.complex_entity.specs.MeaningRows.{flat}
-use Rattle.complex_entity.specs.MirrorParts.{partAt}
-
--- the parts of the n rows that a list of numbers begins with
-unfoldable pub partsAt : ℕ → List ℕ → List Part
-partsAt zero l = []
-partsAt (suc n) l = partAt l ∷ partsAt n (drop 13 l)
+use Rattle.complex_entity.specs.MeaningParts.{Part}
+use Rattle.rows.specs.MirrorRows.{partsAt, Put}
 
 -- the lists of so many rows each, one after another
 unfoldable pub listsAt : List ℕ → List ℕ → List (List Part)
@@ -23,23 +17,12 @@ unfoldable pub sum : List ℕ → ℕ
 sum [] = 0
 sum (n ∷ ns) = n + sum ns
 
--- a list, sorted without repeats, stands at the front of a slice that has room for 128 rows
-pub record Stands (rows : List ℕ) (count : ℕ) : Type 0 where
-  pub small : count ≤ 128
-  pub room : 1664 ≤ length rows
-  pub clean : take (13 * count) rows ≡ flat (partsAt count rows)
-  pub ordered : Rising order (partsAt count rows)
-
 -- each part of a list is a set of names
 abbrev pub Sets : List Part → Type 0
 Sets L = (p : Part) → p ∈ L → Rising compare p
 
 abbrev pub AllSets : List (List Part) → Type 0
 AllSets Ls = (L : List Part) → L ∈ Ls → Sets L
-
--- the rows of L stand at the front, and past them is what was there
-abbrev pub Put : List Part → List ℕ → List ℕ → Type 0
-Put L before after = after ≡ flat L ++ drop (13 * length L) before
 
 -- a list that is answered stands in the slice
 abbrev pub PutIf : Answer (List Part) → List ℕ → List ℕ → Type 0

@@ -2,30 +2,28 @@
 //
 // Lists of parts as rows of 13 numbers at the front of a lent slice, worked on in place.
 ghost use mathlib.Core.Path.{_≡_};
-ghost use mathlib.Core.List.{[], _∷_, _++_};
-ghost use Prim.Native.Nat.{_+_, _*_, _<_, _≤_};
-ghost use lib.ListN.{length, take, drop};
-ghost use lib.Seq.{paste};
+ghost use mathlib.Core.List.{[], _∷_};
+ghost use Prim.Native.Nat.{_+_, _*_, _≤_};
+ghost use lib.ListN.{length, drop};
 ghost use Rattle.refusal.specs.MeaningAnswer.{done};
-ghost use Rattle.complex_entity.specs.MeaningParts.{order, contains};
+ghost use Rattle.complex_entity.specs.MeaningParts.{contains};
 ghost use Rattle.complex_entity.specs.MeaningLists.{add, joins, bitand, sub, div, held, any, equal, oneofOf, prefixes, andOf, andorOf};
-ghost use Rattle.complex_entity.specs.Told.{toldOrder};
-ghost use Rattle.complex_entity.specs.MirrorParts.{namesOf, partAt};
-ghost use Rattle.instantiables.specs.MirrorRows.{partsAt, listsAt, sum, Stands, Sets, AllSets, Put, Listing};
-ghost use Rattle.instantiables.specs.MirrorLists.{placeOf};
+ghost use Rattle.complex_entity.specs.MirrorParts.{namesOf, partOf, partAt};
+ghost use Rattle.rows.specs.MirrorRows.{partsAt, Stands, Put};
+ghost use Rattle.instantiables.specs.MirrorRows.{listsAt, sum, Sets, AllSets, Listing};
 ghost use Rattle.complex_entity.specs.MirrorLists.{grown};
 ghost use Rattle.instantiables.specs.Told.{toldListed};
 ghost use Rattle.instantiables.specs.declared.Listed.the-variants.{Refused};
-use complex_entity::Order;
 use complex_entity::PartialComplexEntity;
 use complex_entity::Verdict;
 use refusal::Refusal;
-
-// Where a part stands in a list, or where it would go.
-pub enum Spot {
-    Found(usize),
-    Gap(usize),
-}
+use rows::Spot;
+use rows::copy;
+use rows::merge;
+use rows::place_last;
+use rows::raise;
+use rows::same_at;
+use rows::together;
 
 // The list that stands at the front of the slice now, or why there is none.
 pub enum Listed {
@@ -58,13 +56,13 @@ impl Instantiables {
         requires { ⌜ 13 ≤ length (now rows) ⌝ }
         ensures { λ r. ⌜ (r ≡ record { count = 1 }) × Put ((index ∷ []) ∷ []) (now (rows .entry)) (now (rows .exit)) ⌝ }
     {
-        PartialComplexEntity::single(index).write(rows, 0);
+        PartialComplexEntity::single(index).put(rows, 0);
         Self { count: 1 }
     }
 
     // [A, B] + C = [A, B, C]
     pub fn add_part(self, rows: &mut [u16], part: PartialComplexEntity) -> Listed
-        requires { ⌜ Stands (now rows) (self .count) ⌝ }
+        requires { ⌜ Stands (now rows) (self .count) × (part ≡ partOf (namesOf part)) ⌝ }
         ensures { λ r. ⌜ Listing (held (add (partsAt (self .count) (now (rows .entry))) (namesOf part ∷ []))) (now (rows .entry)) (now (rows .exit)) (toldListed r) ⌝ }
     {
         let found = place_last(rows, self.count, part);
@@ -81,7 +79,7 @@ impl Instantiables {
             at + PartialComplexEntity::ROW,
             13 * self.count - at,
         );
-        part.write(rows, at);
+        part.put(rows, at);
         Listed::Rows(Self {
             count: self.count + 1,
         })
@@ -190,17 +188,17 @@ impl Instantiables {
         rows: &mut [u16],
         factor: Self,
         factors: &[u16],
-        old: &mut [u16],
+        scratch: &mut [u16],
     ) -> Listed
-        requires { ⌜ Stands (now rows) (self .count) × (13 * factor .count ≤ length (now factors)) × (1664 ≤ length (now old)) ⌝ }
+        requires { ⌜ Stands (now rows) (self .count) × (13 * factor .count ≤ length (now factors)) × (1664 ≤ length (now scratch)) ⌝ }
         requires { ⌜ Sets (partsAt (self .count) (now rows)) × Sets (partsAt (factor .count) (now factors)) ⌝ }
         ensures { λ r. ⌜ Listing (held (grown (partsAt (self .count) (now (rows .entry))) (partsAt (factor .count) (now (factors .entry))))) (now (rows .entry)) (now (rows .exit)) (toldListed r) ⌝ }
     {
-        let r = Self::with_joins(old, factor, factors, self, rows);
+        let r = Self::with_joins(scratch, factor, factors, self, rows);
         let Listed::Rows(more) = r else {
             return r;
         };
-        self.unite(rows, more, old)
+        self.unite(rows, more, scratch)
     }
 
     // A list's parts, and the joins of another's with them.
@@ -221,11 +219,12 @@ impl Instantiables {
         requires { ⌜ Stands (now rows) (self .count) × Stands (now others) (other .count) ⌝ }
         ensures { λ r. ⌜ Listing (held (add (partsAt (self .count) (now (rows .entry))) (partsAt (other .count) (now (others .entry))))) (now (rows .entry)) (now (rows .exit)) (toldListed r) ⌝ }
     {
-        let total = together(rows, self.count, others, other.count);
+        let mut steps = [0u8; 256];
+        let total = together(rows, self.count, others, other.count, &mut steps);
         if Self::LIMIT < total {
             return Self::over();
         }
-        merge(rows, self.count, others, other.count, total);
+        merge(rows, self.count, others, other.count, total, &steps);
         Listed::Rows(Self { count: total })
     }
 
@@ -244,7 +243,7 @@ impl Instantiables {
                 at += 13;
                 left -= 1;
             } else {
-                part.write(rows, to);
+                part.put(rows, to);
                 kept += 1;
                 to += 13;
                 at += 13;
@@ -266,7 +265,7 @@ impl Instantiables {
         while 0 < left {
             let part = PartialComplexEntity::read(rows, at);
             if other.some_in(others, part) {
-                part.write(rows, to);
+                part.put(rows, to);
                 kept += 1;
                 to += 13;
                 at += 13;
@@ -335,8 +334,8 @@ impl Instantiables {
     }
 
     // A AND B AND C -> [A & B & C]; every prefix is held to the limits
-    pub fn and(rows: &mut [u16], counts: &[u16], lists: &[u16], old: &mut [u16]) -> Listed
-        requires { ⌜ (1664 ≤ length (now rows)) × (1664 ≤ length (now old)) × (13 * sum (now counts) ≤ length (now lists)) ⌝ }
+    pub fn and(rows: &mut [u16], counts: &[u16], lists: &[u16], scratch: &mut [u16]) -> Listed
+        requires { ⌜ (1664 ≤ length (now rows)) × (1664 ≤ length (now scratch)) × (13 * sum (now counts) ≤ length (now lists)) ⌝ }
         requires { ⌜ AllSets (listsAt (now counts) (now lists)) ⌝ }
         ensures { λ r. ⌜ Listing (andOf (listsAt (now (counts .entry)) (now (lists .entry)))) (now (rows .exit)) (now (rows .exit)) (toldListed r) ⌝ }
     {
@@ -357,12 +356,18 @@ impl Instantiables {
             return r;
         };
         let further = at + 13 * second;
-        two.and_more(rows, &counts[2..], &lists[further..], old)
+        two.and_more(rows, &counts[2..], &lists[further..], scratch)
     }
 
     // The further terms of an AND: shorter lists may follow longer ones, so what is past the rows is not what it was.
-    fn and_more(self, rows: &mut [u16], counts: &[u16], lists: &[u16], old: &mut [u16]) -> Listed
-        requires { ⌜ Stands (now rows) (self .count) × (1664 ≤ length (now old)) × (13 * sum (now counts) ≤ length (now lists)) ⌝ }
+    fn and_more(
+        self,
+        rows: &mut [u16],
+        counts: &[u16],
+        lists: &[u16],
+        scratch: &mut [u16],
+    ) -> Listed
+        requires { ⌜ Stands (now rows) (self .count) × (1664 ≤ length (now scratch)) × (13 * sum (now counts) ≤ length (now lists)) ⌝ }
         requires { ⌜ Sets (partsAt (self .count) (now rows)) × AllSets (listsAt (now counts) (now lists)) ⌝ }
         ensures { λ r. ⌜ Listing (prefixes (partsAt (self .count) (now (rows .entry))) (listsAt (now (counts .entry)) (now (lists .entry)))) (now (rows .exit)) (now (rows .exit)) (toldListed r) ⌝ }
     {
@@ -371,8 +376,8 @@ impl Instantiables {
         let mut i = 0;
         while i < counts.len() {
             let count = counts[i] as usize;
-            copy(old, rows, 13 * list.count);
-            let r = Self::bitand(rows, list, old, Self { count }, &lists[at..]);
+            copy(scratch, rows, 13 * list.count);
+            let r = Self::bitand(rows, list, scratch, Self { count }, &lists[at..]);
             let Listed::Rows(more) = r else {
                 return r;
             };
@@ -384,8 +389,8 @@ impl Instantiables {
     }
 
     // A ANDOR B ANDOR C -> [A, B, C, A & B, B & C, A & C, A & B & C]
-    pub fn andor(rows: &mut [u16], counts: &[u16], lists: &[u16], old: &mut [u16]) -> Listed
-        requires { ⌜ (1664 ≤ length (now rows)) × (1664 ≤ length (now old)) × (13 * sum (now counts) ≤ length (now lists)) ⌝ }
+    pub fn andor(rows: &mut [u16], counts: &[u16], lists: &[u16], scratch: &mut [u16]) -> Listed
+        requires { ⌜ (1664 ≤ length (now rows)) × (1664 ≤ length (now scratch)) × (13 * sum (now counts) ≤ length (now lists)) ⌝ }
         requires { ⌜ AllSets (listsAt (now counts) (now lists)) ⌝ }
         ensures { λ r. ⌜ Listing (andorOf (listsAt (now (counts .entry)) (now (lists .entry)))) (now (rows .entry)) (now (rows .exit)) (toldListed r) ⌝ }
     {
@@ -400,7 +405,7 @@ impl Instantiables {
         let mut i = 0;
         while i < counts.len() {
             let count = counts[i] as usize;
-            let r = list.andor_step(rows, Self { count }, &lists[at..], old);
+            let r = list.andor_step(rows, Self { count }, &lists[at..], scratch);
             let Listed::Rows(more) = r else {
                 return r;
             };
@@ -422,159 +427,5 @@ impl Instantiables {
         ensures { λ r. ⌜ r ≡ Refused (record { number = 11; place = 0 }) ⌝ }
     {
         Self::refused(11)
-    }
-}
-
-// A part is equal to the row at a place.
-fn same_at(part: PartialComplexEntity, rows: &[u16], at: usize) -> bool
-    requires { ⌜ at + 13 ≤ length (now rows) ⌝ }
-    ensures { λ r. ⌜ r ≡ equal (namesOf part) (partAt (drop at (now (rows .entry)))) ⌝ }
-{
-    match part.compare_at(rows, at) {
-        Order::Less => false,
-        Order::Same => true,
-        Order::More => false,
-    }
-}
-
-// The place of a part in a list, by halving.
-pub fn place(rows: &[u16], count: usize, part: PartialComplexEntity) -> Spot
-    requires { ⌜ Stands (now rows) count ⌝ }
-    ensures { λ r. ⌜ r ≡ placeOf (partsAt count (now (rows .entry))) (namesOf part) ⌝ }
-{
-    let mut low = 0;
-    let mut high = count;
-    while low < high {
-        let middle = low + ((high - low) >> 1);
-        match part.compare_at(rows, 13 * middle) {
-            Order::Less => {
-                high = middle;
-            }
-            Order::Same => {
-                return Spot::Found(middle);
-            }
-            Order::More => {
-                low = middle + 1;
-            }
-        }
-    }
-    Spot::Gap(low)
-}
-
-// The same, the last row looked at first, since results often come in order.
-pub fn place_last(rows: &[u16], count: usize, part: PartialComplexEntity) -> Spot
-    requires { ⌜ Stands (now rows) count ⌝ }
-    ensures { λ r. ⌜ r ≡ placeOf (partsAt count (now (rows .entry))) (namesOf part) ⌝ }
-{
-    if 0 < count {
-        match part.compare_at(rows, 13 * (count - 1)) {
-            Order::Less => {
-                return place(rows, count, part);
-            }
-            Order::Same => {
-                return Spot::Found(count - 1);
-            }
-            Order::More => {
-                return Spot::Gap(count);
-            }
-        }
-    }
-    Spot::Gap(0)
-}
-
-// How many parts two sorted lists have together, counted from the last ones on.
-fn together(rows: &[u16], count: usize, others: &[u16], other: usize) -> usize
-    requires { ⌜ Stands (now rows) count × Stands (now others) other ⌝ }
-    ensures { λ r. ⌜ r ≡ length (add (partsAt count (now (rows .entry))) (partsAt other (now (others .entry)))) ⌝ }
-{
-    let mut n = count;
-    let mut m = other;
-    let mut passed = 0;
-    while 0 < m {
-        if n == 0 {
-            return passed + m;
-        }
-        match PartialComplexEntity::compare_rows(rows, 13 * (n - 1), others, 13 * (m - 1)) {
-            Order::Less => {
-                m -= 1;
-                passed += 1;
-            }
-            Order::Same => {
-                n -= 1;
-                m -= 1;
-                passed += 1;
-            }
-            Order::More => {
-                n -= 1;
-                passed += 1;
-            }
-        }
-    }
-    passed + n
-}
-
-// Two sorted lists become one of `total` parts, from the last ones on; the first rows that are left stand there already.
-fn merge(rows: &mut [u16], count: usize, others: &[u16], other: usize, total: usize)
-    requires { ⌜ Stands (now rows) count × Stands (now others) other ⌝ }
-    requires { ⌜ (total ≡ length (add (partsAt count (now rows)) (partsAt other (now others)))) × (total ≤ 128) ⌝ }
-    ensures { λ _. ⌜ Put (add (partsAt count (now (rows .entry))) (partsAt other (now (others .entry)))) (now (rows .entry)) (now (rows .exit)) ⌝ }
-{
-    let mut n = count;
-    let mut m = other;
-    let mut to = total;
-    while 0 < m {
-        to -= 1;
-        if n == 0 {
-            m -= 1;
-            copy_row(rows, 13 * to, others, 13 * m);
-        } else {
-            match PartialComplexEntity::compare_rows(rows, 13 * (n - 1), others, 13 * (m - 1)) {
-                Order::Less => {
-                    m -= 1;
-                    copy_row(rows, 13 * to, others, 13 * m);
-                }
-                Order::Same => {
-                    n -= 1;
-                    m -= 1;
-                    raise(rows, 13 * n, 13 * to, PartialComplexEntity::ROW);
-                }
-                Order::More => {
-                    n -= 1;
-                    raise(rows, 13 * n, 13 * to, PartialComplexEntity::ROW);
-                }
-            }
-        }
-    }
-}
-
-// A row of another slice goes to a place.
-fn copy_row(rows: &mut [u16], to: usize, others: &[u16], from: usize)
-    requires { ⌜ (to + 13 ≤ length (now rows)) × (from + 13 ≤ length (now others)) ⌝ }
-    ensures { λ _. ⌜ now (rows .exit) ≡ paste (now (rows .entry)) to (drop from (now (others .entry))) 13 ⌝ }
-{
-    copy(&mut rows[to..], &others[from..], PartialComplexEntity::ROW);
-}
-
-// The n numbers from a place on go to a place that is not before it, the last ones first.
-pub fn raise(rows: &mut [u16], from: usize, to: usize, n: usize)
-    requires { ⌜ (from ≤ to) × (to + n ≤ length (now rows)) ⌝ }
-    ensures { λ _. ⌜ now (rows .exit) ≡ paste (now (rows .entry)) to (drop from (now (rows .entry))) n ⌝ }
-{
-    let mut k = n;
-    while 0 < k {
-        k -= 1;
-        rows[to + k] = rows[from + k];
-    }
-}
-
-// The first n numbers of one slice go to the front of another.
-pub fn copy(to: &mut [u16], from: &[u16], n: usize)
-    requires { ⌜ (n ≤ length (now to)) × (n ≤ length (now from)) ⌝ }
-    ensures { λ _. ⌜ now (to .exit) ≡ take n (now (from .entry)) ++ drop n (now (to .entry)) ⌝ }
-{
-    let mut i = 0;
-    while i < n {
-        to[i] = from[i];
-        i += 1;
     }
 }

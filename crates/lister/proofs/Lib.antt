@@ -1,4 +1,5 @@
 -- The laws of the listing: its lines from the records, then each way through the code.
+pub mod Naming
 pub mod Supertypes
 pub mod Starting
 pub mod Typing

@@ -9,11 +9,11 @@ use Rattle.refusal.specs.MeaningAnswer.{Answer, done, mapped}
 use Rattle.refusal.specs.Told.{toldRefusal}
 use Rattle.refusal.specs.declared.Refusal.{Refusal}
 use Rattle.complex_entity.specs.MeaningParts.{Part}
-use Rattle.instantiables.specs.MirrorRows.{partsAt, Stands}
-use Rattle.instantiables.proofs.Flats.{parts-length}
-use Rattle.sheet.specs.MeaningReading.{Reading}
+use Rattle.rows.specs.MirrorRows.{partsAt, Stands}
+use Rattle.rows.proofs.Flats.{parts-length}
+use Rattle.grammar.specs.MeaningReading.{Reading}
 use Rattle.scope.specs.MeaningScope.{Path}
-use Rattle.namespace.specs.MeaningOrder.{schemasIn}
+use Rattle.declarations.specs.MeaningNamespace.{schemasIn}
 use Rattle.expression.specs.declared.Value.{Value}
 use Rattle.expression.specs.declared.Valued.{Valued}
 use Rattle.expression.specs.declared.Valued.the-variants as valued
@@ -21,14 +21,14 @@ use Rattle.merging.specs.MeaningMerging.{Combined}
 use Rattle.merging.specs.MirrorStream.{streamOf, RecordsFrom, ownersFrom, EntryAt, EntryIs}
 use Rattle.merging.specs.declared.Entry.{Entry}
 use Rattle.merging.specs.declared.Entry.the-variants as entry
-use Rattle.constraints.specs.MirrorStanding.{Both, Standing, Stood, listBy, listAt, StandsIf, ListedAs}
-use Rattle.constraints.proofs.Standing.{standing-all}
+use Rattle.supertypes.specs.MirrorStanding.{Both, Standing, Stood, listBy, listAt, StandsIf, ListedAs}
+use Rattle.supertypes.proofs.Standing.{standing-all}
 use Rattle.text.specs.MeaningText.{supertypeLine}
 use Rattle.text.specs.MirrorText.{Puts}
 use Rattle.text.specs.Told.{toldCount}
 use Rattle.text.specs.declared.Count.the-variants as count
-use Rattle.listing.specs.MeaningLines.{lineOfSupertype, partsOf, listLines}
-use Rattle.listing.specs.MirrorLines.{Short, Noted}
+use Rattle.listing.specs.MeaningLines.{partsOf}
+use Rattle.listing.specs.MirrorLines.{Short, Noted, lineOfSupertype}
 use Rattle.lister.specs.MirrorRest.{Lines, Ready, From, SupertypesLeft, ownerLines, typesFrom, supertypesFrom, Rest, Gives, AtCursor, GivesFirst, left, Falls}
 use Rattle.lister.specs.declared.Cursor.the-variants as on
 use Rattle.lister.specs.declared.Line.{Line}
@@ -42,7 +42,7 @@ some-bytes s o n r before after P = omega (arith, P .end)
 
 first-owner : (rd : Reading) (s : List ℕ) (walked : Path → Answer Bool) (b : Both) (o : ℕ) (os : List ℕ) (a : Answer (List Part)) → listBy o b ≡ a
     → supertypesFrom rd s walked b (o ∷ os) ≡ lineOfSupertype (schemasIn s) o (mapped length a) ∷ (partsOf (schemasIn s) a ++ supertypesFrom rd s walked b os)
-unfolding supertypesFrom ownerLines listLines
+unfolding supertypesFrom ownerLines
 first-owner rd s walked b o os a e = rw e (ap (λ (ls : Lines). lineOfSupertype (schemasIn s) o (mapped length a) ∷ ls) (append-assoc (partsOf (schemasIn s) a) (ownerLines (schemasIn s) b os) (typesFrom rd s walked 0)))
 
 -- ---- what is required

@@ -13,10 +13,10 @@ use Rattle.complex_entity.specs.MeaningParts.{Part}
 use Rattle.complex_entity.specs.MeaningRows.{rowOf, flat}
 use Rattle.complex_entity.specs.MirrorParts.{partAt}
 use Rattle.complex_entity.proofs.Rows.{part-at-few}
-use Rattle.instantiables.specs.MirrorRows.{partsAt, Stands}
-use Rattle.instantiables.proofs.Flats.{parts-narrow, parts-length, parts-at, flat-cons, flat-length, flat-drop}
-use Rattle.sheet.specs.MeaningReading.{Reading}
-use Rattle.namespace.specs.MeaningOrder.{schemasIn}
+use Rattle.rows.specs.MirrorRows.{partsAt, Stands}
+use Rattle.rows.proofs.Flats.{parts-narrow, parts-length, parts-at, flat-cons, flat-length, flat-drop}
+use Rattle.grammar.specs.MeaningReading.{Reading}
+use Rattle.declarations.specs.MeaningNamespace.{schemasIn}
 use Rattle.text.specs.MeaningText.{partLine}
 use Rattle.text.specs.MirrorText.{Puts}
 use Rattle.listing.specs.MeaningLines.{lineOfPart, partLines}

@@ -2,29 +2,27 @@
 use mathlib.Core.Path.{_≡_, refl, sym, ap, _∙_}
 use mathlib.Core.List.{List, [], _∷_}
 use mathlib.Core.Bool.{Bool, true}
-use Prim.Native.Nat.{ℕ, _<_}
+use Prim.Native.Nat.{ℕ}
 use native.Mathlib.Omega.{arith}
 use lib.ListN.{take}
-use lib.Seq.{take-at}
 use Rattle.refusal.specs.MeaningAnswer.{Answer, done, mapped}
-use Rattle.sheet.specs.MeaningReading.{Reading}
+use Rattle.grammar.specs.MeaningReading.{Reading}
 use Rattle.sheet.proofs.Proved.{some-verdict}
 use Rattle.schemas.specs.MeaningSchemas.{Schema}
 use Rattle.scope.specs.MeaningScope.{Path}
-use Rattle.namespace.specs.MeaningNamespace.{Declaration, Named}
-use Rattle.namespace.specs.MeaningNamespace.Named.{a-type, an-entity}
-use Rattle.namespace.specs.MeaningOrder.{schemasIn, inOrder, Answers}
+use Rattle.declarations.specs.MeaningNamespace.{schemasIn, Declaration, Named}
+use Rattle.declarations.specs.MeaningNamespace.Named.{a-type, an-entity}
+use Rattle.namespace.specs.MeaningOrder.{inOrder, Answers}
 use Rattle.namespace.proofs.Clearing.{answers-once}
 use Rattle.merging.specs.MeaningMerging.{Combined}
 use Rattle.gathering.specs.MeaningCombined.{supertypes}
-use Rattle.type_ref.proofs.Proved.{walks-on, walks-once}
+use Rattle.named_types.proofs.Proved.{walks-on, walks-once}
 use Rattle.listing.specs.MeaningListing.{supertypeLines, flagsOf, typeLinesOf, typeLines, linesOf, listed, printed}
 use Rattle.listing.specs.MeaningWhole.{AllWalked, ListsBy, Lists}
-use Rattle.text.specs.MirrorText.{Puts}
-use Rattle.lister.specs.MirrorRest.{Lines, Rest, Gives, Starts, Makes, over, line}
+use Rattle.text.proofs.Putting.{puts-front}
+use Rattle.lister.specs.MirrorRest.{Lines, Rest, Gives, Makes, over, line}
 use Rattle.lister.specs.Claims.{Some-listing, One-listing, Made-is-listed}
 use Rattle.lister.specs.declared.Cursor.{Cursor}
-use Rattle.lister.specs.declared.Line.{Line}
 
 pub some-listing : Some-listing
 unfolding Lists ListsBy AllWalked Answers
@@ -71,9 +69,6 @@ one-listing rd s ls ls' L M =
 
 -- ---- what is made are the lines that are left
 
-put-first : (l : List ℕ) (r : ℕ) (before after : List ℕ) → Puts l 0 r before after → take r after ≡ l
-put-first l r before after P = rw (P .put) (take-at l _ r (omega (arith, P .end)))
-
 module _ (rd : Reading) (s names : List ℕ) (walked : Path → Answer Bool) (W : AllWalked rd s walked) where
   made-left : (work : List ℕ) (c : Cursor) (ls ms : Lines) → Makes rd s names work c ls → Rest rd s walked names work c ms → ls ≡ ms
   unfolding Gives
@@ -86,7 +81,7 @@ module _ (rd : Reading) (s names : List ℕ) (walked : Path → Answer Bool) (W 
     where
       some : (ms : Lines) → Gives rd s walked names work' before after r ms → ((k : Lines) → Rest rd s walked names work' (r .next) k → ls ≡ k) → take (r .stop) after ∷ ls ≡ ms
       some [] g rest = absurd (omega (arith, h, g .0))
-      some (m ∷ ms) g rest = rw (put-first m (r .stop) before after (g .1), rest ms (g .2)) refl
+      some (m ∷ ms) g rest = rw (puts-front m (r .stop) before after (g .1), rest ms (g .2)) refl
 
 pub made-is-listed : Made-is-listed
 unfolding Lists AllWalked

@@ -9,24 +9,25 @@ use lib.ListN.{length}
 use Rattle.refusal.specs.MeaningAnswer.{Answer, done, refused, orElse, _>>=_}
 use Rattle.refusal.specs.Told.{toldRefusal}
 use Rattle.refusal.specs.declared.Refusal.{Refusal}
-use Rattle.sheet.specs.MeaningReading.{Reading}
-use Rattle.sheet.specs.MeaningGrammar.{most-bytes}
+use Rattle.grammar.specs.MeaningReading.{Reading}
+use Rattle.grammar.specs.MeaningGrammar.{most-bytes}
 use Rattle.sheet.specs.MeaningSheet.{Is}
 use Rattle.sheet.specs.Claims.{AllBytes}
-use Rattle.sheet.proofs.Choosing.{clash}
+use Rattle.grammar.proofs.Choosing.{clash}
 use Rattle.scope.specs.MeaningScope.{Path}
-use Rattle.scope.specs.declared.Verdict.the-variants as verdict
-use Rattle.namespace.specs.MeaningOrder.{schemasIn, inOrder, Answers}
+use Rattle.query.specs.declared.Verdict.the-variants as verdict
+use Rattle.declarations.specs.MeaningNamespace.{schemasIn}
+use Rattle.namespace.specs.MeaningOrder.{inOrder, Answers}
 use Rattle.namespace.specs.Told.{toldVerdict}
 use Rattle.merging.specs.MirrorStream.{streamOf, paired, ownersFrom}
 use Rattle.gathering.specs.MirrorGathering.{streams}
 use Rattle.gathering.specs.declared.Gathered.{Gathered}
 use Rattle.gathering.specs.declared.Gathered.the-variants as gathered
 use Rattle.gathering.specs.declared.Streams.{Streams}
-use Rattle.constraints.specs.MeaningQuestions.{enough}
-use Rattle.constraints.specs.MirrorStanding.{Both, Gathers}
-use Rattle.constraints.proofs.Answering.{answers-then}
-use Rattle.constraints.proofs.Questions.{asked-refused}
+use Rattle.supertypes.specs.MeaningWorkspace.{enough}
+use Rattle.supertypes.specs.MirrorStanding.{Both, Gathers}
+use Rattle.supertypes.proofs.Answering.{answers-then}
+use Rattle.supertypes.proofs.Asking.{asked-refused}
 use Rattle.text.specs.MeaningText.{refusedLine}
 use Rattle.listing.specs.MeaningListing.{listed, printed}
 use Rattle.listing.specs.MeaningWhole.{ListsBy}

@@ -2,34 +2,37 @@
 use mathlib.Core.Path.{_≡_, refl, sym, ap, _∙_}
 use mathlib.Core.List.{List, [], _∷_, _++_, map}
 use mathlib.Core.Bool.{Bool, true, false}
-use mathlib.Core.Option.{Option, none, some}
+use mathlib.Core.Option.{Option, some}
 use Prim.Native.Nat.{ℕ}
 use borrow.Author.Tests.{eqb-true, eq-eqb}
 use lib.Dec.{eqb}
 use Rattle.refusal.specs.MeaningAnswer.{Answer, done, mapped, _>>=_}
 use Rattle.complex_entity.specs.MeaningSets.{_∈_, here, there}
-use Rattle.sheet.specs.MeaningReading.{Reading}
-use Rattle.sheet.proofs.Choosing.{either, opposed}
+use Rattle.grammar.specs.MeaningReading.{Reading}
+use Rattle.grammar.proofs.Choosing.{either, opposed}
 use Rattle.schemas.specs.MeaningSchemas.{Schema}
 use Rattle.scope.specs.MeaningScope.{Path, samePath}
 use Rattle.expression.specs.MeaningExpression.{Expr, eval}
-use Rattle.namespace.specs.MeaningNamespace.{answered}
-use Rattle.namespace.specs.MeaningOrder.{schemasIn}
+use Rattle.declarations.specs.MeaningNamespace.{schemasIn, answered}
 use Rattle.merging.specs.MeaningMerging.{Combined, find}
 use Rattle.merging.specs.MeaningNumbering.{mapExpr}
-use Rattle.merging.specs.Claims.{among, firsts}
+use Rattle.merging.specs.MeaningFirsts.{among, firsts}
 use Rattle.merging.specs.MirrorStream.{paired, ownersFrom}
 use Rattle.merging.proofs.Ordering.{among-append}
-use Rattle.gathering.specs.MeaningCombined.{supertypes, combined, numberFor, numberedExpr, listOf}
+use Rattle.records.specs.MeaningResolving.{numberFor}
+use Rattle.gathering.specs.MeaningCombined.{supertypes, combined, numberedExpr, listOf}
 use Rattle.gathering.specs.MirrorGathering.{streams}
 use Rattle.gathering.specs.Claims.{IsDeclared}
 use Rattle.gathering.proofs.Declaring.{by-path, number-is}
 use Rattle.gathering.proofs.Proved.{all-declared}
-use Rattle.constraints.specs.MirrorStanding.{Both, listBy, listIn}
-use Rattle.constraints.proofs.Owning.{Alike, both-done, both-refused, alike, list-by, owners-both}
+use Rattle.supertypes.specs.MirrorStanding.{Both, listBy, listIn}
+use Rattle.supertypes.proofs.Owning.{Alike, both-done, both-refused, alike, list-by, owners-both}
 use Rattle.constraints.proofs.Proved.{names-apart}
+use Rattle.listing.specs.MeaningLines.{listLines}
 use Rattle.listing.specs.MeaningListing.{supertypeLines, linesOf, listed}
+use Rattle.listing.specs.MirrorLines.{lineOfSupertype}
 use Rattle.lister.specs.MirrorRest.{Lines, ownerLines, typesFrom, supertypesFrom}
+use Rattle.lister.proofs.Naming.{declared-names}
 
 -- ---- the first of each stand once
 
@@ -90,9 +93,11 @@ module _ (rd : Reading) (s : List ℕ) where
         rw n (sym (rw (i, f) refl) ∙ list-by rd xs (c .owner) ∙ rw (j, d .1) refl)
 
     lines-same : (h : List (Combined Path)) → ((c : Combined Path) → c ∈ h → c ∈ g) → (walked : Path → Answer Bool) → supertypeLines rd xs walked h ≡ ownerLines xs b (map numberOf h)
-    unfolding supertypeLines ownerLines
+    unfolding supertypeLines ownerLines listLines lineOfSupertype
     lines-same [] f walked = refl
-    lines-same (c ∷ h) f walked = rw (list-is c (f c (here refl)), lines-same h (λ d k. f d (there k)) walked) refl
+    lines-same (c ∷ h) f walked =
+        let m = f c (here refl) in
+        rw (list-is c m, declared-names rd xs (c .owner) (all-declared rd xs g i c m .0), lines-same h (λ d k. f d (there k)) walked) refl
 
   -- ---- all lines, from the records
   pub listed-by : (walked : Path → Answer Bool) → listed rd xs walked ≡ (streams rd xs >>= λ b. done (supertypesFrom rd s walked b (ownersFrom [] (b .0 ++ map paired (b .1)))))

@@ -7,10 +7,10 @@ use native.Mathlib.Omega.{arith}
 use lib.ListN.{length}
 use Rattle.refusal.specs.MeaningAnswer.{Answer}
 use Rattle.refusal.specs.declared.Refusal.{Refusal}
-use Rattle.sheet.specs.MeaningReading.{Reading}
+use Rattle.grammar.specs.MeaningReading.{Reading}
 use Rattle.scope.specs.MeaningScope.{Path}
-use Rattle.namespace.specs.MeaningOrder.{schemasIn}
-use Rattle.type_ref.proofs.Proved.{walks-on}
+use Rattle.declarations.specs.MeaningNamespace.{schemasIn}
+use Rattle.named_types.proofs.Proved.{walks-on}
 use Rattle.text.specs.MeaningText.{refusedLine}
 use Rattle.text.specs.MirrorText.{Puts}
 use Rattle.listing.specs.MeaningWhole.{AllWalked}

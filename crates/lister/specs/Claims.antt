@@ -2,7 +2,7 @@
 use Prim.Native.Nat.{ℕ}
 use mathlib.Core.Path.{_≡_}
 use mathlib.Core.List.{List}
-use Rattle.sheet.specs.MeaningReading.{Reading, rust}
+use Rattle.grammar.specs.MeaningReading.{Reading, rust}
 use Rattle.sheet.specs.Claims.{AllBytes}
 use Rattle.schemas.specs.MeaningExamples.{cam}
 use Rattle.listing.specs.MeaningWhole.{Lists}

@@ -4,22 +4,21 @@ use mathlib.Core.Path.{_≡_}
 use mathlib.Core.List.{List, [], _∷_, _++_, map}
 use mathlib.Core.Bool.{Bool}
 use lib.ListN.{length, take, drop}
-use Rattle.refusal.specs.MeaningAnswer.{Answer}
-use Rattle.sheet.specs.MeaningReading.{Reading}
+use Rattle.refusal.specs.MeaningAnswer.{Answer, mapped}
+use Rattle.grammar.specs.MeaningReading.{Reading}
 use Rattle.schemas.specs.MeaningSchemas.{Schema}
 use Rattle.scope.specs.MeaningScope.{Path}
-use Rattle.instantiables.specs.MirrorRows.{partsAt, Stands}
-use Rattle.namespace.specs.MeaningNamespace.{declarations}
-use Rattle.namespace.specs.MeaningOrder.{schemasIn}
+use Rattle.rows.specs.MirrorRows.{partsAt, Stands}
+use Rattle.declarations.specs.MeaningNamespace.{schemasIn, declarations}
 use Rattle.merging.specs.MeaningMerging.{Combined}
 use Rattle.merging.specs.MirrorStream.{streamOf, paired, ownersFrom}
-use Rattle.constraints.specs.MirrorStanding.{Both, Standing, listBy}
+use Rattle.supertypes.specs.MirrorStanding.{Both, Standing, listBy}
 use Rattle.text.specs.MeaningText.{refusedLine}
 use Rattle.text.specs.MirrorText.{Puts}
-use Rattle.listing.specs.MeaningLines.{listLines, partLines}
+use Rattle.listing.specs.MeaningLines.{partLines, partsOf}
 use Rattle.listing.specs.MeaningListing.{typeLines}
 use Rattle.listing.specs.MeaningWhole.{AllWalked, ListsBy}
-use Rattle.listing.specs.MirrorLines.{Short, Noted}
+use Rattle.listing.specs.MirrorLines.{Short, Noted, lineOfSupertype}
 use Rattle.lister.specs.declared.Records.{Records}
 use Rattle.lister.specs.declared.Parts.{Parts}
 use Rattle.lister.specs.declared.Cursor as cursor
@@ -50,7 +49,7 @@ owners f = ownersFrom (f .passed) (f .coming)
 -- the lines of some owners' lists
 unfoldable pub ownerLines : List Schema → Both → List ℕ → Lines
 ownerLines xs b [] = []
-ownerLines xs b (o ∷ os) = listLines xs o (listBy o b) ++ ownerLines xs b os
+ownerLines xs b (o ∷ os) = lineOfSupertype xs o (mapped length (listBy o b)) ∷ (partsOf xs (listBy o b) ++ ownerLines xs b os)
 
 module _ (rd : Reading) (s : List ℕ) (walked : Path → Answer Bool) where
   -- the lines of the types from a number on

@@ -3,11 +3,10 @@ ghost use mathlib.Core.List.{List};
 ghost use Prim.Native.Nat.{ℕ, _≤_};
 ghost use lib.ListN.{length};
 ghost use Rattle.sheet.specs.Told.{toldReading};
+ghost use Rattle.listing.specs.MirrorLines.{most-line};
 ghost use Rattle.lister.specs.MirrorRest.{Ready, AtCursor, Starts, GivesFirst, Falls};
 ghost use Rattle.lister.specs.declared.Cursor.the-variants as on;
-use constraints::RECORDS;
-use constraints::gathered;
-use constraints::list_of;
+use complex_entity::PartialComplexEntity;
 use expression::Valued;
 use gathering::Gathered;
 use gathering::Streams;
@@ -19,9 +18,12 @@ use listing::type_line_of;
 use lookup::Sought;
 use merging::Entry;
 use merging::next_owner;
+use query::Verdict;
 use refusal::Refusal;
-use scope::Verdict;
 use sheet::Reading;
+use supertypes::RECORDS;
+use supertypes::gathered;
+use supertypes::list_of;
 use text::Count;
 use text::refused_line;
 
@@ -56,9 +58,6 @@ pub struct Line {
 // Room for any line.
 pub const LINE: usize = 800;
 
-// The numbers of a row.
-const ROW: usize = 13;
-
 // Checks and gathers, and notes where the names stand.
 pub fn start(reading: Reading, sheet: &[u8], names: &mut [u16], workspace: &mut [u16]) -> Cursor
     requires { ⌜ 32768 ≤ length (now workspace) ⌝ }
@@ -83,7 +82,7 @@ pub fn next_line(
     out: &mut [u8],
 ) -> Line
     requires { ⌜ AtCursor (toldReading reading) (now sheet) (now names) (now workspace) cursor ⌝ }
-    requires { ⌜ 800 ≤ length (now out) ⌝ }
+    requires { ⌜ most-line ≤ length (now out) ⌝ }
     ensures gives { λ r. ⌜ GivesFirst (toldReading reading) (now (sheet .entry)) (now (names .entry)) (now (workspace .entry)) cursor (now (workspace .exit)) (now (out .entry)) (now (out .exit)) r ⌝ }
     ensures falls { λ r. ⌜ Falls cursor r ⌝ }
 {
@@ -114,7 +113,7 @@ fn next_supertype(
     out: &mut [u8],
 ) -> Line
     requires { ⌜ AtCursor (toldReading reading) (now sheet) (now names) (now workspace) (on.Supertypes records) ⌝ }
-    requires { ⌜ 800 ≤ length (now out) ⌝ }
+    requires { ⌜ most-line ≤ length (now out) ⌝ }
     ensures gives { λ r. ⌜ GivesFirst (toldReading reading) (now (sheet .entry)) (now (names .entry)) (now (workspace .entry)) (on.Supertypes records) (now (workspace .exit)) (now (out .entry)) (now (out .exit)) r ⌝ }
     ensures falls { λ r. ⌜ Falls (on.Supertypes records) r ⌝ }
 {
@@ -154,7 +153,7 @@ fn next_part(
     out: &mut [u8],
 ) -> Line
     requires { ⌜ AtCursor (toldReading reading) (now sheet) (now names) (now workspace) (on.Parts parts) ⌝ }
-    requires { ⌜ 800 ≤ length (now out) ⌝ }
+    requires { ⌜ most-line ≤ length (now out) ⌝ }
     ensures gives { λ r. ⌜ GivesFirst (toldReading reading) (now (sheet .entry)) (now (names .entry)) (now (workspace .entry)) (on.Parts parts) (now (workspace .exit)) (now (out .entry)) (now (out .exit)) r ⌝ }
     ensures falls { λ r. ⌜ Falls (on.Parts parts) r ⌝ }
 {
@@ -164,7 +163,7 @@ fn next_part(
     if count <= number {
         return next_supertype(reading, sheet, names, workspace, then, out);
     }
-    let at = RECORDS + ROW * number;
+    let at = RECORDS + PartialComplexEntity::ROW * number;
     let stop = part_line(sheet, names, number, &workspace[at..], out);
     Line {
         stop,
@@ -179,7 +178,7 @@ fn next_part(
 // The line of the first type from the number on.
 fn next_type(reading: Reading, sheet: &[u8], names: &[u16], number: usize, out: &mut [u8]) -> Line
     requires { ⌜ Ready (now sheet) (now names) ⌝ }
-    requires { ⌜ 800 ≤ length (now out) ⌝ }
+    requires { ⌜ most-line ≤ length (now out) ⌝ }
     ensures gives { λ r. ⌜ ((work : List ℕ) → GivesFirst (toldReading reading) (now (sheet .entry)) (now (names .entry)) work (on.Types number) work (now (out .entry)) (now (out .exit)) r) ⌝ }
     ensures falls { λ r. ⌜ Falls (on.Types number) r ⌝ }
 {

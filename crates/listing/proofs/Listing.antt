@@ -6,11 +6,10 @@ use Prim.Native.Nat.{ℕ, _+_, _*_, _≤_, _<_}
 use native.Mathlib.Numerals.{add-one}
 use native.Mathlib.Omega.{arith}
 use lib.Dec.{eqb}
-use lib.ListN.{length, take, drop, getD, length-append, length-drop}
+use lib.ListN.{length, take, drop, getD, length-append, length-drop, length-map}
 use lib.Seq.{length-take-le, take-all, take-suc, getD-take, getD-drop}
 use Rattle.complex_entity.specs.MirrorParts.{partAt}
-use Rattle.namespace.specs.MeaningOrder.{schemasIn}
-use Rattle.namespace.proofs.Picking.{map-length}
+use Rattle.declarations.specs.MeaningNamespace.{schemasIn}
 use Rattle.text.specs.MeaningText.{blank, line-feed, decimal}
 use Rattle.text.specs.MirrorText.{Puts, nextText, partText}
 use Rattle.text.proofs.Digits.{decimal-length}
@@ -82,7 +81,7 @@ module _ (s : List ℕ) (number : ℕ) (row : List ℕ) (count start i at : ℕ)
         → Listing s number row count start (i + 1) r before z
     list-next h k first e p =
         let b : i < getD row 0 0 = omega (arith, f .counted) in
-        let l : length (map (numberText (schemasIn s)) (take i (partAt row))) ≡ i = map-length (numberText (schemasIn s)) (take i (partAt row)) ∙ length-take-le i (partAt row) (omega (arith, many row (f .stands))) in
+        let l : length (map (numberText (schemasIn s)) (take i (partAt row))) ≡ i = length-map (take i (partAt row)) (numberText (schemasIn s)) ∙ length-take-le i (partAt row) (omega (arith, many row (f .stands))) in
         record {
           stands = f .stands;
           counted = f .counted;

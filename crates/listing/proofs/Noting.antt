@@ -1,5 +1,5 @@
 -- The names that are noted: two numbers for each, behind those that are noted already.
-use mathlib.Core.Path.{_≡_, refl, sym, ap, _∙_}
+use mathlib.Core.Path.{_≡_, refl, ap, _∙_}
 use mathlib.Core.Logic.{inl, inr}
 use mathlib.Core.List.{List}
 use Prim.Native.Nat.{ℕ, _+_, _*_, _/_, _≤_, _<_}
@@ -8,7 +8,7 @@ use native.Mathlib.Omega.{arith}
 use lib.ListN.{length, set, getD, length-set}
 use lib.Seq.{getD-set-same, getD-set-other}
 use Rattle.lookup.specs.declared.Span.{Span}
-use Rattle.namespace.specs.MeaningOrder.{schemasIn}
+use Rattle.declarations.specs.MeaningNamespace.{schemasIn}
 use Rattle.listing.specs.MeaningLines.{namesOf}
 use Rattle.listing.specs.MirrorLines.{Spells, spanAt, NotedAt, Noted}
 

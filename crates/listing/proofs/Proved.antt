@@ -5,7 +5,7 @@ use Rattle.complex_entity.specs.MeaningRows.{rowOf}
 use Rattle.complex_entity.proofs.Rows.{row-long, part-at-row}
 use Rattle.schemas.specs.MeaningTree.{treeOf}
 use Rattle.schemas.proofs.Proved.{bare-tree, has-its-forest}
-use Rattle.namespace.specs.MeaningOrder.{schemasIn}
+use Rattle.declarations.specs.MeaningNamespace.{schemasIn}
 use Rattle.listing.specs.Claims.{Accepted-is-short, Parts-stand}
 use Rattle.listing.proofs.Shortness.{tree-few}
 

@@ -9,15 +9,16 @@ use lib.Dec.{eqb, leb}
 use lib.ListN.{length}
 use Rattle.complex_entity.specs.MeaningSets.{_∈_}
 use Rattle.complex_entity.specs.MeaningSets._∈_.{here, there}
-use Rattle.sheet.specs.MeaningReading.{Reading}
-use Rattle.sheet.specs.MeaningName.{Name, most-name-bytes, isName}
-use Rattle.sheet.specs.MeaningGrammar.{oneOf, kindOf}
-use Rattle.sheet.proofs.Choosing.{either, both}
+use Rattle.grammar.specs.MeaningReading.{Reading}
+use Rattle.sheet.specs.MeaningName.{Name, isName}
+use Rattle.grammar.specs.MeaningGrammar.{most-name-bytes, oneOf, kindOf}
+use Rattle.grammar.proofs.Choosing.{either, both}
 use Rattle.forest.specs.MeaningForest.{Sound, Right}
-use Rattle.schemas.specs.MeaningTree.{Tree, bare}
+use Rattle.schemas.specs.MeaningTree.{Tree}
+use Rattle.schemas.specs.MeaningBare.{bare}
 use Rattle.schemas.specs.MeaningTree.Tree.{nil, leaf, node}
 use Rattle.schemas.specs.MeaningSchemas.{TypeDecl, Entity, Schema, noName, nameAt, nameOf, typeOf, entityOf, each, schemaOf, schemasOf}
-use Rattle.namespace.specs.MeaningNamespace.{Named, a-type, an-entity, Declaration, scopeIn, itemOf, pathIn, declaredBy, numbered, entriesFrom, allOf, declarations, outermost, schemaName, itemName}
+use Rattle.declarations.specs.MeaningNamespace.{Named, a-type, an-entity, Declaration, scopeIn, itemOf, pathIn, declaredBy, numbered, entriesFrom, allOf, declarations, outermost, schemaName, itemName}
 
 abbrev pub Few : List ℕ → Type 0
 Few v = length v ≤ most-name-bytes

@@ -9,24 +9,24 @@ use lib.ListN.{length, getElem?}
 use Rattle.refusal.specs.MeaningAnswer.{Answer}
 use Rattle.complex_entity.specs.MeaningSets.{_∈_}
 use Rattle.complex_entity.specs.MeaningSets._∈_.{here, there}
-use Rattle.sheet.specs.MeaningName.{Name, most-name-bytes}
-use Rattle.sheet.proofs.Choosing.{clash}
+use Rattle.sheet.specs.MeaningName.{Name}
+use Rattle.grammar.specs.MeaningGrammar.{most-name-bytes}
+use Rattle.grammar.proofs.Choosing.{clash}
 use Rattle.schemas.specs.MeaningTree.{treeAt}
 use Rattle.schemas.specs.MeaningSchemas.{nameOf, schemaOf}
 use Rattle.lookup.specs.MirrorLookup.{spanOf, Lies}
 use Rattle.lookup.specs.declared.Span.{Span}
 use Rattle.lookup.proofs.Names.{span-order, span-in, span-bytes}
-use Rattle.namespace.specs.MeaningNamespace.{Declaration, scopeIn, pathIn, declarations, outermost, schemaName, itemName}
-use Rattle.namespace.specs.MeaningOrder.{schemasIn}
-use Rattle.namespace.specs.MirrorDeclared.{Stands, StandsAt}
-use Rattle.namespace.specs.declared.Declared.{Declared}
-use Rattle.namespace.specs.declared.Declared.the-variants.{At, Past}
-use Rattle.namespace.proofs.Standing.{item-named}
+use Rattle.declarations.specs.MeaningNamespace.{schemasIn, Declaration, scopeIn, pathIn, declarations, outermost, schemaName, itemName}
+use Rattle.declarations.specs.MirrorDeclared.{Stands, StandsAt}
+use Rattle.declarations.specs.declared.Declared.{Declared}
+use Rattle.declarations.specs.declared.Declared.the-variants.{At, Past}
+use Rattle.declarations.proofs.Standing.{item-named}
 use Rattle.text.specs.MeaningText.{pathText, supertypeLine}
 use Rattle.text.specs.MirrorText.{Puts, nextText}
 use Rattle.text.proofs.Lines.{path-length, next-length}
-use Rattle.listing.specs.MeaningLines.{Names, namesAt, namesOf, numberText, lineOfSupertype}
-use Rattle.listing.specs.MirrorLines.{bytesAt, Short, Spells}
+use Rattle.listing.specs.MeaningLines.{Names, namesAt, namesOf, numberText}
+use Rattle.listing.specs.MirrorLines.{bytesAt, Short, Spells, lineOfSupertype}
 
 -- ---- where they stand
 

@@ -1,6 +1,6 @@
 -- The lines of types: which declaration comes next, and its flags.
 use mathlib.Core.Path.{_≡_, refl, sym, ap, _∙_, subst}
-use mathlib.Core.List.{List, [], _∷_, _++_}
+use mathlib.Core.List.{List, [], _∷_}
 use mathlib.Core.Option.{Option, none, some}
 use mathlib.Core.Bool.{Bool, true}
 use Prim.Native.Nat.{ℕ, zero, suc, _+_, _-_, _≤_, _<_}
@@ -8,11 +8,11 @@ use native.Mathlib.Numerals.{add-one}
 use native.Mathlib.Omega.{arith}
 use borrow.Author.Tests.{eq-eqb, ne-eqb}
 use lib.ListN.{length, drop, getElem?}
-use Rattle.refusal.specs.MeaningAnswer.{Answer, done, refused, mapped}
+use Rattle.refusal.specs.MeaningAnswer.{Answer, refused}
 use Rattle.refusal.specs.declared.Refusal.{Refusal}
 use Rattle.complex_entity.specs.MeaningSets.{_∈_}
-use Rattle.sheet.specs.MeaningReading.{Reading}
-use Rattle.sheet.proofs.Choosing.{clash}
+use Rattle.grammar.specs.MeaningReading.{Reading}
+use Rattle.grammar.proofs.Choosing.{clash}
 use Rattle.schemas.specs.MeaningTree.{treeAt}
 use Rattle.schemas.specs.MeaningSchemas.{TypeDecl, typeOf, entityOf, Schema}
 use Rattle.scope.specs.MeaningScope.{Path, samePath}
@@ -20,34 +20,33 @@ use Rattle.scope.specs.MeaningScope.ScopeType.{type}
 use Rattle.lookup.specs.declared.Span.{Span}
 use Rattle.lookup.specs.declared.Sought.{Sought}
 use Rattle.lookup.specs.declared.Sought.the-variants as sought
-use Rattle.namespace.specs.MeaningNamespace.{Named, a-type, an-entity, Declaration, scopeIn, itemOf, pathIn, declaredBy, numbered, entriesFrom, allOf, declarations, declarationFor, outermost, schemaName, itemName}
-use Rattle.namespace.specs.MeaningOrder.{schemasIn}
-use Rattle.namespace.specs.MirrorDeclared.{namedAt, Stands, StandsAt}
-use Rattle.namespace.specs.MirrorNamespace.{soughtOf, pathTo}
-use Rattle.namespace.specs.declared.Declared.{Declared}
-use Rattle.namespace.specs.declared.Declared.the-variants.{At, Past}
-use Rattle.namespace.proofs.Scopes.{declaration-same, own-path}
-use Rattle.type_ref.specs.MeaningTypes.{isEnumeration}
-use Rattle.type_ref.specs.MirrorTypes.{walkedBy}
-use Rattle.type_ref.specs.MirrorCode.{toldWalked}
-use Rattle.type_ref.specs.declared.Walked.{Walked}
-use Rattle.type_ref.specs.declared.Walked.the-variants as walked
-use Rattle.type_ref.proofs.Few.{few}
-use Rattle.type_ref.proofs.Proved.{walks-once}
-use Rattle.type_ref.proofs.Typing.{walks-nowhere, walks-there, enumerates-there}
+use Rattle.declarations.specs.MeaningNamespace.{schemasIn, Named, a-type, an-entity, Declaration, scopeIn, itemOf, pathIn, declaredBy, numbered, entriesFrom, allOf, declarations, declarationFor, outermost, schemaName, itemName}
+use Rattle.declarations.specs.MirrorDeclared.{namedAt, Stands, StandsAt}
+use Rattle.declarations.specs.MirrorNamespace.{soughtOf, pathTo}
+use Rattle.declarations.specs.declared.Declared.{Declared}
+use Rattle.declarations.specs.declared.Declared.the-variants.{At, Past}
+use Rattle.declarations.proofs.Scopes.{declaration-same, own-path}
+use Rattle.named_types.specs.MeaningWalk.{isEnumeration}
+use Rattle.named_types.specs.MirrorTypes.{walkedBy}
+use Rattle.named_types.specs.MirrorCode.{toldWalked}
+use Rattle.named_types.specs.declared.Walked.{Walked}
+use Rattle.named_types.specs.declared.Walked.the-variants as walked
+use Rattle.named_types.proofs.Few.{few}
+use Rattle.named_types.proofs.Proved.{walks-once}
+use Rattle.named_types.proofs.Finding.{walks-nowhere, walks-there, enumerates-there}
 use Rattle.text.specs.MeaningText.{typeLine}
 use Rattle.text.specs.MirrorText.{Puts}
 use Rattle.text.specs.Told.{toldFlags}
 use Rattle.text.specs.declared.Flags.{Flags}
 use Rattle.text.specs.declared.Flags.the-variants.{Are, Refused}
 use Rattle.listing.specs.MeaningLines.{namesAt, namesOf}
-use Rattle.listing.specs.MeaningListing.{flagsOf, typeLinesOf, typeLines}
+use Rattle.listing.specs.MeaningListing.{flagsOf}
 use Rattle.listing.specs.MeaningWhole.{AllWalked}
-use Rattle.listing.specs.MirrorLines.{bytesAt, Spells, TypeAt, NextType}
+use Rattle.listing.specs.MirrorLines.{bytesAt, Spells, typeOr, firstType, typeFrom}
 use Rattle.listing.proofs.Shortness.{All, all-append, all-in}
 use Rattle.listing.proofs.Spelling.{nth-there}
 
--- ---- the first type from a number on: those that are passed have no lines
+-- ---- the first type from a number on
 
 pub nth-drop : {A : Type 0} (xs : List A) (k : ℕ) (x : A) → getElem? xs k ≡ some x → drop k xs ≡ x ∷ drop (suc k) xs
 nth-drop [] k x e = clash (cc)
@@ -66,18 +65,17 @@ nth-below (y ∷ xs) zero x e = omega arith
 nth-below (y ∷ xs) (suc k) x e = omega (arith, nth-below xs k x e)
 
 pub record Seeking (s : List ℕ) (from n : ℕ) : Type 0 where
-  pub onward : from ≤ n
-  pub lines : (rd : Reading) (walked : Path → Answer Bool) → typeLines rd (schemasIn s) walked (drop from (declarations (schemasIn s))) ≡ typeLines rd (schemasIn s) walked (drop n (declarations (schemasIn s)))
+  pub left : typeFrom (schemasIn s) from ≡ typeFrom (schemasIn s) n
 
 pub seek-start : (s : List ℕ) (from : ℕ) → Seeking s from from
-seek-start s from = record { onward = omega arith; lines = λ rd walked. refl }
+seek-start s from = record { left = refl }
 
 module _ (s : List ℕ) (from n : ℕ) (f : Seeking s from n) (o : Declared) (w : StandsAt s (declarations (schemasIn s)) n o) where
-  pub seek-none : (m : ℕ) → o ≡ Past m → NextType (schemasIn s) from (sought.Past n)
-  unfolding NextType typeLines
-  seek-none m g rd walked =
+  pub seek-none : (m : ℕ) → o ≡ Past m → sought.Past n ≡ typeFrom (schemasIn s) from
+  unfolding typeFrom firstType
+  seek-none m g =
       let z : getElem? (declarations (schemasIn s)) n ≡ none = (subst (StandsAt s (declarations (schemasIn s)) n) g w) .0 in
-      f .lines rd walked ∙ ap (typeLines rd (schemasIn s) walked) (nth-none (declarations (schemasIn s)) n z)
+      sym (f .left ∙ ap (firstType n) (nth-none (declarations (schemasIn s)) n z))
 
   module _ (x y t a b : ℕ) (g : o ≡ At x y t a b) where
     it-stands : Stands s (declarations (schemasIn s)) n x y t a b
@@ -86,37 +84,29 @@ module _ (s : List ℕ) (from n : ℕ) (f : Seeking s from n) (o : Declared) (w 
     below : n < length (declarations (schemasIn s))
     below = nth-below (declarations (schemasIn s)) n (it-stands .it) (it-stands .there)
 
+    -- the declaration itself decides
+    here : (d : Named) → namedAt t (it-stands .place) (treeAt s a b) ≡ d → typeFrom (schemasIn s) from ≡ typeOr d n (typeFrom (schemasIn s) (n + 1))
+    unfolding typeFrom firstType
+    here d e =
+        let st = it-stands in
+        f .left
+        ∙ ap (firstType n) (nth-drop (declarations (schemasIn s)) n (st .it) (st .there))
+        ∙ ap (λ (k : Named). typeOr k n (firstType (suc n) (drop (suc n) (declarations (schemasIn s))))) (st .named-is ∙ e)
+        ∙ rw (add-one n) refl
+
     pub seek-small : n + 1 ≤ length s
     seek-small = omega (arith, below, few s)
 
     pub seek-less : length (declarations (schemasIn s)) - (n + 1) < length (declarations (schemasIn s)) - n
     seek-less = omega (arith, below)
 
-    pub seek-found : t ≡ 0x20 → NextType (schemasIn s) from (sought.At n)
-    unfolding NextType namedAt
-    seek-found e =
-        let st = it-stands in
-        record {
-          it = st .it;
-          decl = typeOf (st .place) (treeAt s a b);
-          there = st .there;
-          is = st .named-is ∙ rw (eq-eqb t 0x20 e) refl;
-          onward = f .onward;
-          lines = f .lines;
-        }
+    pub seek-found : t ≡ 0x20 → sought.At n ≡ typeFrom (schemasIn s) from
+    unfolding typeOr namedAt
+    seek-found e = sym (here (a-type (typeOf (it-stands .place) (treeAt s a b))) (rw (eq-eqb t 0x20 e) refl))
 
     pub seek-on : (t ≡ 0x20 → ⊥) → Seeking s from (n + 1)
-    unfolding namedAt typeLines typeLinesOf
-    seek-on e = record {
-      onward = omega (arith, f .onward);
-      lines = λ rd walked.
-          let st = it-stands in
-          let i : st .it .named ≡ an-entity (entityOf (st .place) (treeAt s a b)) = st .named-is ∙ rw (ne-eqb t 0x20 e) refl in
-          f .lines rd walked
-          ∙ ap (typeLines rd (schemasIn s) walked) (nth-drop (declarations (schemasIn s)) n (st .it) (st .there))
-          ∙ ap (λ (d : Named). typeLinesOf rd (schemasIn s) walked (st .it .path) d ++ typeLines rd (schemasIn s) walked (drop (suc n) (declarations (schemasIn s)))) i
-          ∙ rw (add-one n) refl;
-    }
+    unfolding typeOr namedAt
+    seek-on e = record { left = here (an-entity (entityOf (it-stands .place) (treeAt s a b))) (rw (ne-eqb t 0x20 e) refl) }
 
 pub ruleset seeking = (seek-start, seek-none, seek-less, seek-found, seek-on)
 

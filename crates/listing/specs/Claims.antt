@@ -7,7 +7,7 @@ use Rattle.refusal.specs.MeaningAnswer.{done}
 use Rattle.complex_entity.specs.MeaningParts.{Part, most-names}
 use Rattle.complex_entity.specs.MeaningRows.{rowOf}
 use Rattle.complex_entity.specs.MirrorParts.{partAt}
-use Rattle.sheet.specs.MeaningReading.{Reading}
+use Rattle.grammar.specs.MeaningReading.{Reading}
 use Rattle.sheet.specs.MeaningSheet.{Is}
 use Rattle.sheet.specs.Claims.{AllBytes}
 use Rattle.listing.specs.MirrorLines.{Short, RowStands}

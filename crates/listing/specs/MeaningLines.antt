@@ -1,4 +1,4 @@
--- The lines of a listing that speak of declarations, by their numbers.
+-- The lines of a supertype and of its parts, whose names are numbers of declarations.
 use Prim.Native.Nat.{ℕ, suc}
 use mathlib.Core.List.{List, [], _∷_, map}
 use mathlib.Core.Option.{Option, none, some}
@@ -6,7 +6,8 @@ use lib.ListN.{length, getElem?}
 use Rattle.refusal.specs.MeaningAnswer.{Answer, done, refused, mapped}
 use Rattle.schemas.specs.MeaningSchemas.{Schema}
 use Rattle.complex_entity.specs.MeaningParts.{Part}
-use Rattle.namespace.specs.MeaningNamespace.{Declaration, declarations, schemaName, itemName}
+use Rattle.scope.specs.MeaningScope.{Path}
+use Rattle.declarations.specs.MeaningNamespace.{Declaration, declarations, schemaName, itemName}
 use Rattle.text.specs.MeaningText.{pathText, supertypeLine, partLine}
 
 -- the schema's and the item's name of a declaration
@@ -37,9 +38,6 @@ module _ (xs : List Schema) where
   partsOf (done L) = partLines 0 L
   partsOf (refused n place) = []
 
-  -- "`supertype`, path, count"
-  unfoldable pub lineOfSupertype : ℕ → Answer ℕ → List ℕ
-  lineOfSupertype owner count = supertypeLine (namesOf owner .schema) (namesOf owner .item) count
-
-  unfoldable pub listLines : ℕ → Answer (List Part) → List (List ℕ)
-  listLines owner o = lineOfSupertype owner (mapped length o) ∷ partsOf o
+  -- "`supertype`, path, count, then .."
+  unfoldable pub listLines : Path → Answer (List Part) → List (List ℕ)
+  listLines p o = supertypeLine (schemaName p) (itemName p) (mapped length o) ∷ partsOf o

@@ -3,16 +3,17 @@ use Prim.Native.Nat.{ℕ}
 use mathlib.Core.List.{List, [], _∷_, _++_}
 use mathlib.Core.Bool.{Bool}
 use Rattle.refusal.specs.MeaningAnswer.{Answer, done, refused, mapped}
-use Rattle.sheet.specs.MeaningReading.{Reading}
+use Rattle.grammar.specs.MeaningReading.{Reading}
 use Rattle.schemas.specs.MeaningSchemas.{Schema}
 use Rattle.scope.specs.MeaningScope.{Path}
 use Rattle.expression.specs.MeaningExpression.{eval}
-use Rattle.namespace.specs.MeaningNamespace.{Declaration, Named, declarations, declarationFor, schemaName, itemName}
-use Rattle.namespace.specs.MeaningNamespace.Named.{a-type, an-entity}
+use Rattle.declarations.specs.MeaningNamespace.{Declaration, Named, declarations, declarationFor, schemaName, itemName}
+use Rattle.declarations.specs.MeaningNamespace.Named.{a-type, an-entity}
 use Rattle.merging.specs.MeaningMerging.{Combined}
 use Rattle.merging.specs.MeaningNumbering.{mapExpr}
-use Rattle.gathering.specs.MeaningCombined.{supertypes, numberFor}
-use Rattle.type_ref.specs.MeaningTypes.{isEnumeration}
+use Rattle.records.specs.MeaningResolving.{numberFor}
+use Rattle.gathering.specs.MeaningCombined.{supertypes}
+use Rattle.named_types.specs.MeaningWalk.{isEnumeration}
 use Rattle.text.specs.MeaningText.{refusedLine, typeLine}
 use Rattle.listing.specs.MeaningLines.{listLines}
 
@@ -21,7 +22,7 @@ module _ (rd : Reading) (xs : List Schema) (walked : Path → Answer Bool) where
   -- "Per supertype in order of first entry (b, d, c) it prints `supertype`, path, count .."
   unfoldable pub supertypeLines : List (Combined Path) → List (List ℕ)
   supertypeLines [] = []
-  supertypeLines (c ∷ g) = listLines xs (numberFor rd xs (c .owner)) (eval (mapExpr (numberFor rd xs) (c .expr))) ++ supertypeLines g
+  supertypeLines (c ∷ g) = listLines xs (c .owner) (eval (mapExpr (numberFor rd xs) (c .expr))) ++ supertypeLines g
 
   -- "Then per type, as declared: `type`, path, simple flag, enumeration flag (0 or 1)."
   unfoldable pub flagsOf : Path → Answer (Bool × Bool)

@@ -1,13 +1,14 @@
--- The listing of a sheet: "a refusal before that prints only `refused`, number, place".
+-- The listing of a sheet, by its bytes.
 use Prim.Native.Nat.{ℕ}
 use mathlib.Core.Path.{_≡_}
 use mathlib.Core.List.{List}
 use mathlib.Core.Bool.{Bool, true}
 use Rattle.refusal.specs.MeaningAnswer.{Answer, done}
-use Rattle.sheet.specs.MeaningReading.{Reading}
+use Rattle.grammar.specs.MeaningReading.{Reading}
 use Rattle.scope.specs.MeaningScope.{Path}
-use Rattle.namespace.specs.MeaningOrder.{schemasIn, Answers}
-use Rattle.type_ref.specs.MeaningTypes.{Walks}
+use Rattle.declarations.specs.MeaningNamespace.{schemasIn}
+use Rattle.namespace.specs.MeaningOrder.{Answers}
+use Rattle.named_types.specs.MeaningWalk.{Walks}
 use Rattle.listing.specs.MeaningListing.{listed, printed}
 
 -- from every path, what the walk through named types answers

@@ -1,25 +1,25 @@
 -- What the lines' code asks of a sheet, and where it finds names.
-use Prim.Native.Nat.{ℕ, _+_, _*_, _-_, _≤_}
+use Prim.Native.Nat.{ℕ, suc, _+_, _*_, _-_, _≤_}
 use mathlib.Core.Path.{_≡_}
-use mathlib.Core.List.{List, []}
-use mathlib.Core.Bool.{Bool}
+use mathlib.Core.List.{List, [], _∷_}
 use mathlib.Core.Option.{some}
 use lib.ListN.{length, take, drop, getD, getElem?}
 use Rattle.refusal.specs.MeaningAnswer.{Answer}
 use Rattle.complex_entity.specs.MeaningSets.{_∈_}
 use Rattle.complex_entity.specs.MeaningParts.{most-names}
-use Rattle.sheet.specs.MeaningReading.{Reading}
-use Rattle.sheet.specs.MeaningName.{most-name-bytes}
+use Rattle.grammar.specs.MeaningGrammar.{most-name-bytes}
 use Rattle.schemas.specs.MeaningSchemas.{TypeDecl, Schema}
-use Rattle.scope.specs.MeaningScope.{Path}
 use Rattle.lookup.specs.declared.Span.{Span}
 use Rattle.lookup.specs.declared.Sought.{Sought}
 use Rattle.lookup.specs.declared.Sought.the-variants.{At, Past}
-use Rattle.namespace.specs.MeaningNamespace.{Declaration, declarations, schemaName, itemName}
-use Rattle.namespace.specs.MeaningNamespace.Named.{a-type}
-use Rattle.namespace.specs.MeaningOrder.{schemasIn}
+use Rattle.declarations.specs.MeaningNamespace.{schemasIn, Declaration, Named, declarations, schemaName, itemName}
+use Rattle.declarations.specs.MeaningNamespace.Named.{a-type, an-entity}
+use Rattle.text.specs.MeaningText.{supertypeLine}
 use Rattle.listing.specs.MeaningLines.{namesOf}
-use Rattle.listing.specs.MeaningListing.{typeLines}
+
+-- there is room for any line in so many bytes
+abbrev pub most-line : ℕ
+most-line = 800
 
 -- every declaration's names have at most 32 bytes
 abbrev pub Short : List ℕ → Type 0
@@ -54,6 +54,10 @@ pub record NotedAt (s names : List ℕ) (i : ℕ) : Type 0 where
 abbrev pub Noted : (sheet names : List ℕ) → Type 0
 Noted s names = (i : ℕ) → 4 * i + 4 ≤ length names → NotedAt s names i
 
+-- the line of a supertype, by its number
+unfoldable pub lineOfSupertype : List Schema → ℕ → Answer ℕ → List ℕ
+lineOfSupertype xs owner count = supertypeLine (namesOf xs owner .schema) (namesOf xs owner .item) count
+
 -- ---- types
 
 -- the declaration with the number is a type
@@ -63,16 +67,14 @@ pub record IsType (xs : List Schema) (m : ℕ) : Type 0 where
   pub there : getElem? (declarations xs) m ≡ some it
   pub is : it .named ≡ a-type decl
 
--- the declaration with the number is a type, and those from n up to it have no lines
-pub record TypeAt (xs : List Schema) (n m : ℕ) : Type 0 where
-  pub it : Declaration
-  pub decl : TypeDecl
-  pub there : getElem? (declarations xs) m ≡ some it
-  pub is : it .named ≡ a-type decl
-  pub onward : n ≤ m
-  pub lines : (rd : Reading) (walked : Path → Answer Bool) → typeLines rd xs walked (drop n (declarations xs)) ≡ typeLines rd xs walked (drop m (declarations xs))
+-- the number of the first type among declarations numbered from n on; where there is none, the number after the last
+unfoldable pub typeOr : Named → ℕ → Sought → Sought
+typeOr (a-type t) n later = At n
+typeOr (an-entity e) n later = later
 
--- the first type from a number on, if there is one
-unfoldable pub NextType : List Schema → ℕ → Sought → Type 0
-NextType xs n (At m) = TypeAt xs n m
-NextType xs n (Past m) = (rd : Reading) (walked : Path → Answer Bool) → typeLines rd xs walked (drop n (declarations xs)) ≡ []
+unfoldable pub firstType : ℕ → List Declaration → Sought
+firstType n [] = Past n
+firstType n (d ∷ ds) = typeOr (d .named) n (firstType (suc n) ds)
+
+unfoldable pub typeFrom : List Schema → ℕ → Sought
+typeFrom xs n = firstType n (drop n (declarations xs))

@@ -9,23 +9,25 @@ ghost use Rattle.complex_entity.specs.MirrorParts.{partAt};
 ghost use Rattle.sheet.specs.Told.{toldReading};
 ghost use Rattle.schemas.specs.MeaningSchemas.{TypeDecl};
 ghost use Rattle.scope.specs.MeaningScope as meaning;
-ghost use Rattle.namespace.specs.MeaningNamespace.{Declaration, declarations, schemaName, itemName};
-ghost use Rattle.namespace.specs.MeaningNamespace.Named.{a-type};
-ghost use Rattle.namespace.specs.MeaningOrder.{schemasIn};
-ghost use Rattle.namespace.specs.MirrorNamespace.{pathTo};
+ghost use Rattle.declarations.specs.MeaningNamespace.{schemasIn, Declaration, declarations, schemaName, itemName};
+ghost use Rattle.declarations.specs.MeaningNamespace.Named.{a-type};
+ghost use Rattle.declarations.specs.MirrorNamespace.{pathTo};
 ghost use Rattle.text.specs.MeaningText.{typeLine};
 ghost use Rattle.text.specs.MirrorText.{Puts, nextText, Counted};
 ghost use Rattle.text.specs.Told.{toldCount, toldFlags};
-ghost use Rattle.listing.specs.MeaningLines.{namesOf, numberText, lineOfPart, lineOfSupertype};
+ghost use Rattle.listing.specs.MeaningLines.{namesOf, numberText, lineOfPart};
 ghost use Rattle.listing.specs.MeaningListing.{flagsOf};
 ghost use Rattle.listing.specs.MeaningWhole.{AllWalked};
-ghost use Rattle.listing.specs.MirrorLines.{bytesAt, Short, Spells, RowStands, spanAt, Noted, NextType, IsType};
+ghost use Rattle.listing.specs.MirrorLines.{most-line, bytesAt, Short, Spells, RowStands, spanAt, Noted, lineOfSupertype, typeFrom, IsType};
+use declarations::Declared;
+use declarations::declaration;
+use declarations::first_of;
 use lookup::Sought;
 use lookup::Span;
 use lookup::name_of;
-use namespace::Declared;
-use namespace::declaration;
-use namespace::first_of;
+use named_types::Walked;
+use named_types::is_enumeration;
+use named_types::walk;
 use refusal::Refusal;
 use scope::ScopeType;
 use sheet::Reading;
@@ -37,9 +39,6 @@ use text::part_start;
 use text::put_next;
 use text::supertype_line;
 use text::type_line;
-use type_ref::Walked;
-use type_ref::is_enumeration;
-use type_ref::walk;
 
 // Where the names of a declaration stand in the sheet.
 pub struct NamesAt {
@@ -157,7 +156,7 @@ pub fn number_path(
 
 // The line of the part that stands as a row.
 pub fn part_line(sheet: &[u8], names: &[u16], number: usize, row: &[u16], out: &mut [u8]) -> usize
-    requires { ⌜ Short (now sheet) × Noted (now sheet) (now names) × (number ≤ 65535) × RowStands (now row) × (800 ≤ length (now out)) ⌝ }
+    requires { ⌜ Short (now sheet) × Noted (now sheet) (now names) × (number ≤ 65535) × RowStands (now row) × (most-line ≤ length (now out)) ⌝ }
     ensures { λ r. ⌜ Puts (lineOfPart (schemasIn (now (sheet .entry))) number (partAt (now (row .entry)))) 0 r (now (out .entry)) (now (out .exit)) ⌝ }
 {
     let count = row[0] as usize;
@@ -195,7 +194,7 @@ pub fn supertype_line_of(
 
 // The number of the first type from this one on.
 pub fn type_from(sheet: &[u8], number: usize) -> Sought
-    ensures { λ r. ⌜ NextType (schemasIn (now (sheet .entry))) number r ⌝ }
+    ensures { λ r. ⌜ r ≡ typeFrom (schemasIn (now (sheet .entry))) number ⌝ }
 {
     let mut n = number;
     loop {

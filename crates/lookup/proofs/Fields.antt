@@ -6,20 +6,19 @@ use Prim.Native.Nat.{ℕ, _+_, _-_, _<_, _≤_}
 use native.Mathlib.Omega.{arith}
 use lib.Dec.{ltb, eqb}
 use lib.ListN.{length}
-use Rattle.sheet.specs.MeaningGrammar.{kindOf, oneOf}
+use Rattle.grammar.specs.MeaningGrammar.{kindOf, oneOf}
 use Rattle.sheet.specs.MeaningSheet.{sizeOf}
 use Rattle.sheet.specs.MirrorField.{fieldAt}
 use Rattle.sheet.specs.declared.Header.{Header}
 use Rattle.sheet.specs.declared.Header.the-variants.{Field, Passes}
-use Rattle.sheet.proofs.Choosing.{either}
+use Rattle.grammar.proofs.Choosing.{either}
 use Rattle.sheet.proofs.Deciding.{inside}
 use Rattle.forest.specs.MeaningPlaces.{nests}
 use Rattle.forest.proofs.Laying.{part}
 use Rattle.schemas.specs.MeaningTree.{Tree, treeAt}
 use Rattle.schemas.specs.MeaningTree.Tree.{nil, leaf, node}
 use Rattle.schemas.specs.MeaningSchemas.{each}
-use Rattle.schemas.proofs.Trees.{onto, Grows, grows}
-use Rattle.schemas.proofs.Counting.{each-here, each-other}
+use Rattle.schemas.proofs.Trees.{onto, Grows, grows, each-here, each-other}
 
 pub nests-name : nests 0x10 ≡ false
 unfolding kindOf oneOf
@@ -32,8 +31,6 @@ nests-type = refl
 pub nests-entity : nests 0x30 ≡ true
 unfolding kindOf oneOf
 nests-entity = refl
-
-pub ruleset nesting = (nests-type, nests-entity)
 
 abbrev Starts : ℕ → Header → Type 0
 Starts at Passes = Unit {0}

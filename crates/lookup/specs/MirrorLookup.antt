@@ -5,7 +5,7 @@ use mathlib.Core.List.{List, [], _∷_}
 use mathlib.Core.Option.{none, some}
 use mathlib.Core.Bool.{cond}
 use lib.ListN.{length, take, drop, getElem?}
-use Rattle.sheet.specs.MeaningReading.{Reading}
+use Rattle.grammar.specs.MeaningReading.{Reading}
 use Rattle.sheet.specs.MeaningName.{Name}
 use Rattle.schemas.specs.MeaningTree.{Tree, treeAt}
 use Rattle.schemas.specs.MeaningSchemas.{nameOf}

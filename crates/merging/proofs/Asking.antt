@@ -3,19 +3,20 @@ use mathlib.Core.Path.{_≡_, refl, sym, ap, _∙_}
 use mathlib.Core.Logic.{inl, inr}
 use mathlib.Core.List.{List, [], _∷_, _++_, append-assoc}
 use mathlib.Core.Bool.{Bool, true, false, _||_}
-use mathlib.Core.Option.{none, some}
+use mathlib.Core.Option.{some}
 use Prim.Native.Nat.{ℕ, suc, _+_, _-_, _≤_, _<_}
 use native.Mathlib.Omega.{arith}
 use lib.Dec.{eqb}
 use lib.ListN.{length, take, drop, getD, getElem?, length-drop}
 use lib.Seq.{take-all, length-take-le}
 use borrow.Author.Tests.{eq-eqb, ne-eqb, eqb-true}
-use Rattle.expression.specs.MeaningExpression.{Expr, reference, andor, «and», oneof, end, isIn, isInSome}
+use Rattle.expression.specs.MeaningExpression.{Expr, reference, andor, «and», oneof, end, isIn, isInSome, factors}
 use Rattle.expression.specs.MirrorNodes.{flat, scan}
 use Rattle.expression.proofs.Occurrence.{scan-flat}
 use Rattle.merging.specs.MeaningMerging.{Combined, find}
-use Rattle.merging.specs.MeaningItems.{factors, exprsOf, allFactors}
-use Rattle.merging.specs.Claims.{Equivalence, among, firsts}
+use Rattle.merging.specs.MeaningItems.{exprsOf, allFactors}
+use Rattle.merging.specs.MeaningFirsts.{among, firsts}
+use Rattle.merging.specs.Claims.{Equivalence}
 use Rattle.merging.specs.MirrorStream.{streamOf, Records, isFound, begins, aloneOf, ownerOf, RecordsFrom, ownersFrom, EntryAt, EntryIs}
 use Rattle.merging.specs.declared.Combination.{Combination}
 use Rattle.merging.specs.declared.Entry.{Entry}
@@ -263,18 +264,18 @@ unfolding find isFound among
 found-among p [] = refl
 found-among p (c ∷ cs) = elim (both (eqb (c .owner) p)) [ inl a ↦ rw a | inr a ↦ rw a (found-among p cs) ]
 
-pub eqb-equivalence : Equivalence eqb
+eqb-equivalence : Equivalence eqb
 eqb-equivalence = record {
   reflexive = λ p. eq-eqb p p refl;
   symmetric = λ p q h. eq-eqb q p (sym (eqb-true p q h));
   transitive = λ p q r h k. eq-eqb p r (eqb-true p q h ∙ eqb-true q r k);
 }
 
-pub owners-append : (cs ds : List (Combined ℕ)) → owners (cs ++ ds) ≡ owners cs ++ owners ds
+owners-append : (cs ds : List (Combined ℕ)) → owners (cs ++ ds) ≡ owners cs ++ owners ds
 owners-append [] ds = refl
 owners-append (c ∷ cs) ds = rw (owners-append cs ds)
 
-pub firsts-new : (s : List ℕ) (p : ℕ) (ps : List ℕ) → among eqb p s ≡ false → firsts eqb s (p ∷ ps) ≡ p ∷ firsts eqb (s ++ (p ∷ [])) ps
+firsts-new : (s : List ℕ) (p : ℕ) (ps : List ℕ) → among eqb p s ≡ false → firsts eqb s (p ∷ ps) ≡ p ∷ firsts eqb (s ++ (p ∷ [])) ps
 unfolding firsts
 firsts-new s p ps h = rw h
 

@@ -2,13 +2,13 @@
 use mathlib.Core.Path.{_≡_, refl, sym, _∙_}
 use mathlib.Core.Logic.{_⊎_, inl, inr}
 use mathlib.Core.List.{List, [], _∷_}
-use mathlib.Core.Bool.{Bool, true, false, _||_}
+use mathlib.Core.Bool.{Bool, true, false, _||_, or-assoc, or-false}
 use mathlib.Core.Option.{Option, none, some}
 use Prim.Native.Nat.{ℕ}
 use native.Mathlib.Omega.{arith}
-use Rattle.expression.specs.MeaningExpression.{Expr, reference, andor, «and», oneof, Terms, end, _then_, append, isIn, isInSome, andorMut}
+use Rattle.expression.specs.MeaningExpression.{Expr, reference, andor, «and», oneof, Terms, end, _then_, append, isIn, isInSome, andorMut, factors}
 use Rattle.merging.specs.MeaningMerging.{references, leftOver}
-use Rattle.merging.specs.MeaningItems.{factors, allFactors, fresh, combine}
+use Rattle.merging.specs.MeaningItems.{allFactors, fresh, combine}
 
 pub both : (b : Bool) → (b ≡ true) ⊎ (b ≡ false)
 both true = inl refl
@@ -17,42 +17,19 @@ both false = inr refl
 pub not-both : {A : Type 0} (b : Bool) → b ≡ true → b ≡ false → A
 not-both b p q = let z : _≡_ {A = ℕ} 0 1 = cc in absurd (omega arith)
 
-or-assoc : (a b c : Bool) → (a || b) || c ≡ a || (b || c)
-or-assoc true b c = refl
-or-assoc false b c = refl
-
-or-false : (a : Bool) → a || false ≡ a
-or-false true = refl
-or-false false = refl
-
 module _ {N : Type 0} where
   pub append-end : (t : Terms N) → append t end ≡ t
   append-end end = refl
   append-end (e then t) = rw (append-end t)
 
-  pub append-twice : (t u v : Terms N) → append (append t u) v ≡ append t (append u v)
+  append-twice : (t u v : Terms N) → append (append t u) v ≡ append t (append u v)
   append-twice end u v = refl
   append-twice (e then t) u v = rw (append-twice t u v)
 
   -- merging puts factors together
   pub merged-factors : (d e : Expr N) → andorMut d e ≡ andor (append (factors d) (factors e))
-  unfolding andorMut factors
-  merged-factors (reference n) (reference m) = refl
-  merged-factors (reference n) (andor u) = refl
-  merged-factors (reference n) («and» u) = refl
-  merged-factors (reference n) (oneof u) = refl
-  merged-factors (andor t) (reference m) = refl
-  merged-factors (andor t) (andor u) = refl
-  merged-factors (andor t) («and» u) = refl
-  merged-factors (andor t) (oneof u) = refl
-  merged-factors («and» t) (reference m) = refl
-  merged-factors («and» t) (andor u) = refl
-  merged-factors («and» t) («and» u) = refl
-  merged-factors («and» t) (oneof u) = refl
-  merged-factors (oneof t) (reference m) = refl
-  merged-factors (oneof t) (andor u) = refl
-  merged-factors (oneof t) («and» u) = refl
-  merged-factors (oneof t) (oneof u) = refl
+  unfolding andorMut
+  merged-factors d e = refl
 
   pub all-factors-append : (es : List (Expr N)) (t : Terms N) → allFactors es t ≡ append (allFactors es end) t
   unfolding allFactors
@@ -84,7 +61,7 @@ module _ {N : Type 0} where
   merge-andor t [] = rw (append-end t)
   merge-andor t (e ∷ es) = rw (merged-factors (andor t) e) (merge-andor (append t (factors e)) es ∙ rw (append-twice t (factors e) (allFactors es end)))
 
-  pub merge-two : (d e : Expr N) (es : List (Expr N)) → mergeAll (some d) (e ∷ es) ≡ some (andor (allFactors (d ∷ e ∷ es) end))
+  merge-two : (d e : Expr N) (es : List (Expr N)) → mergeAll (some d) (e ∷ es) ≡ some (andor (allFactors (d ∷ e ∷ es) end))
   unfolding mergeAll allFactors
   merge-two d e es = rw (merged-factors d e) (merge-andor (append (factors d) (factors e)) es ∙ rw (append-twice (factors d) (factors e) (allFactors es end)))
 

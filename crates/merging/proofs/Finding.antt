@@ -5,8 +5,8 @@ use mathlib.Core.List.{List, [], _∷_, _++_, append-nil}
 use mathlib.Core.Bool.{Bool, true, false, cond}
 use mathlib.Core.Option.{Option, none, some}
 use Rattle.expression.specs.MeaningExpression.{Expr, andor, andorMut}
-use Rattle.merging.specs.MeaningMerging.{Combined, Pair, Group, references, find, merged, into, groupedOnto, grouped, leftOver, joined, subtyped, withGroups, withSubtypes, mergedOnto, gathered}
-use Rattle.merging.specs.MeaningItems.{exprsOf, subsOf, combinedOf}
+use Rattle.merging.specs.MeaningMerging.{Combined, Pair, Group, references, find, merged, into, groupedOnto, grouped, leftOver, joined, subtyped, withGroups, withSubtypes}
+use Rattle.merging.specs.MeaningItems.{mergedOnto, gathered, exprsOf, subsOf, combinedOf}
 use Rattle.merging.specs.Claims.{Equivalence}
 use Rattle.merging.proofs.Factors.{both, not-both, mergeAll, withLeft, withSubs, subs-combine}
 
@@ -18,17 +18,17 @@ module _ {N : Type 0} {same : N → N → Bool} (E : Equivalence same) where
     | inr a ↦ elim (both (same r p)) [ inl b ↦ not-both (same r q) (E .transitive r p q b (E .symmetric q p h)) a | inr b ↦ a ∙ sym b ]
   ]
 
-  pub same-turned : (p q : N) → same p q ≡ same q p
+  same-turned : (p q : N) → same p q ≡ same q p
   same-turned p q = elim (both (same p q)) [
     | inl a ↦ a ∙ sym (E .symmetric p q a)
     | inr a ↦ elim (both (same q p)) [ inl b ↦ not-both (same p q) (E .symmetric q p b) a | inr b ↦ a ∙ sym b ]
   ]
 
   -- two others are not the same as one
-  pub not-same : (p q r : N) → same q p ≡ false → same r q ≡ true → same r p ≡ false
+  not-same : (p q r : N) → same q p ≡ false → same r q ≡ true → same r p ≡ false
   not-same p q r h a = elim (both (same r p)) [ inl b ↦ not-both (same q p) (E .transitive q r p (E .symmetric r q a) b) h | inr b ↦ b ]
 
-  pub find-right : (p q : N) → same q p ≡ true → (g : List (Combined N)) → find same q g ≡ find same p g
+  find-right : (p q : N) → same q p ≡ true → (g : List (Combined N)) → find same q g ≡ find same p g
   unfolding find
   find-right p q h [] = refl
   find-right p q h (c ∷ g) = rw (same-right p q (c .owner) h, find-right p q h g)

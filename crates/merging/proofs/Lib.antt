@@ -5,7 +5,5 @@ pub mod Ordering
 pub mod Renaming
 pub mod Streams
 pub mod Asking
-pub mod Putting
-pub mod Combining
-pub mod Gathered
+pub mod Clearing
 pub mod Proved

@@ -5,8 +5,10 @@ use mathlib.Core.List.{List, [], _∷_, _++_, map, append-nil, append-assoc}
 use mathlib.Core.Bool.{Bool, true, false, cond}
 use mathlib.Core.Option.{Option, none, some}
 use Rattle.expression.specs.MeaningExpression.{Expr, andor}
-use Rattle.merging.specs.MeaningMerging.{Combined, Pair, Group, references, find, merged, into, groupedOnto, grouped, leftOver, joined, subtyped, withGroups, withSubtypes, mergedOnto, gathered}
-use Rattle.merging.specs.Claims.{Equivalence, among, firsts}
+use Rattle.merging.specs.MeaningMerging.{Combined, Pair, Group, references, find, merged, into, groupedOnto, grouped, leftOver, joined, subtyped, withGroups, withSubtypes}
+use Rattle.merging.specs.MeaningItems.{mergedOnto, gathered}
+use Rattle.merging.specs.MeaningFirsts.{among, firsts}
+use Rattle.merging.specs.Claims.{Equivalence}
 use Rattle.merging.proofs.Factors.{both, not-both}
 use Rattle.merging.proofs.Finding.{same-right}
 
@@ -60,7 +62,7 @@ module _ {N : Type 0} (same : N → N → Bool) where
   owners-all [] g = refl
   owners-all (c ∷ cs) g = owners-all cs (merged same (c .owner) (c .expr) g) ∙ rw (owners-merged (c .owner) (c .expr) g)
 
-  pub is-among : (p : N) (g : List (Combined N)) (d : Expr N) → find same p g ≡ some d → among same p (owners g) ≡ true
+  is-among : (p : N) (g : List (Combined N)) (d : Expr N) → find same p g ≡ some d → among same p (owners g) ≡ true
   unfolding find among
   is-among p [] d f = not-both true refl (cc)
   is-among p (c ∷ g) d f = elim (both (same (c .owner) p)) [ inl a ↦ rw a | inr a ↦ rw a (is-among p g d (rw a at f)) ]
@@ -106,7 +108,7 @@ module _ {N : Type 0} (same : N → N → Bool) where
   ]
 
 module _ {N : Type 0} {same : N → N → Bool} (E : Equivalence same) where
-  pub among-same : (p q : N) → same q p ≡ true → (s : List N) → among same q s ≡ among same p s
+  among-same : (p q : N) → same q p ≡ true → (s : List N) → among same q s ≡ among same p s
   unfolding among
   among-same p q h [] = refl
   among-same p q h (r ∷ s) = rw (same-right E p q r h, among-same p q h s)
@@ -149,7 +151,7 @@ module _ {N : Type 0} {same : N → N → Bool} (E : Equivalence same) where
       (entries-again (entries same [] (owners cs)) [] (supers xs) (λ q h. not-both true refl (sym h)) ∙ sym (entries-append same [] (owners cs) (supers xs)) ∙ entries-firsts same [] (owners cs ++ supers xs))
 
   -- only what is among them matters of those that stand already
-  pub firsts-same : (s t ps : List N) → ((q : N) → among same q s ≡ among same q t) → firsts same s ps ≡ firsts same t ps
+  firsts-same : (s t ps : List N) → ((q : N) → among same q s ≡ among same q t) → firsts same s ps ≡ firsts same t ps
   unfolding firsts
   firsts-same s t [] f = refl
   firsts-same s t (p ∷ ps) f = elim (both (among same p t)) [

@@ -4,12 +4,11 @@ use mathlib.Core.Logic.{inl, inr}
 use mathlib.Core.List.{List, [], _∷_, _++_, map}
 use mathlib.Core.Bool.{Bool, true}
 use mathlib.Core.Option.{Option, none, some}
-use Prim.Native.Nat.{ℕ}
-use Rattle.refusal.specs.MeaningAnswer.{mapped}
-use Rattle.expression.specs.MeaningExpression.{Expr, reference, andor, «and», oneof, Terms, end, _then_, append, isIn, isInSome, andorMut}
-use Rattle.merging.specs.MeaningMerging.{Combined, Pair, Group, references, find, merged, vacant, entered, into, groupedOnto, grouped, leftOver, joined, subtyped, withGroups, withSubtypes, mergedOnto, gathered}
-use Rattle.merging.specs.MeaningItems.{factors}
-use Rattle.merging.specs.MeaningNumbering.{mapExpr, mapTerms, mapCombined, mapPair, mapFound, GoodExpr, GoodTerms, GoodCombined, GoodPair, Each}
+use Rattle.expression.specs.MeaningExpression.{Expr, reference, andor, «and», oneof, Terms, end, _then_, append, isIn, isInSome, andorMut, factors}
+use Rattle.merging.specs.MeaningMerging.{Combined, Pair, Group, references, find, merged, into, groupedOnto, grouped, leftOver, joined, subtyped, withGroups, withSubtypes}
+use Rattle.merging.specs.MeaningItems.{mergedOnto, gathered}
+use Rattle.merging.specs.MeaningNumbering.{mapExpr, mapTerms}
+use Rattle.merging.specs.MeaningRenaming.{mapCombined, mapPair, mapFound, GoodExpr, GoodTerms, GoodCombined, GoodPair, Each}
 use Rattle.merging.proofs.Factors.{both, not-both, merged-factors}
 
 module _ {N M : Type 0} (f : N → M) where
@@ -29,7 +28,7 @@ module _ {N M : Type 0} (f : N → M) where
   unfolding mapExpr
   map-andor t = refl
 
-  pub map-merged : (d e : Expr N) → mapExpr f (andorMut d e) ≡ andorMut (mapExpr f d) (mapExpr f e)
+  map-merged : (d e : Expr N) → mapExpr f (andorMut d e) ≡ andorMut (mapExpr f d) (mapExpr f e)
   map-merged d e =
       rw (merged-factors d e, merged-factors (mapExpr f d) (mapExpr f e), map-andor (append (factors d) (factors e)), map-append (factors d) (factors e), map-factors d, map-factors e)
 
@@ -79,7 +78,7 @@ module _ {N : Type 0} (Good : N → Type 0) where
       | inr a ↦ good-found p g (G .1) d (rw a at h)
     ]
 
-    pub good-merged : (p : N) (e : Expr N) (g : List (Combined N)) → Good p → GoodExpr Good e → Each (GoodCombined Good) g → Each (GoodCombined Good) (merged same p e g)
+    good-merged : (p : N) (e : Expr N) (g : List (Combined N)) → Good p → GoodExpr Good e → Each (GoodCombined Good) g → Each (GoodCombined Good) (merged same p e g)
     unfolding merged Each
     good-merged p e [] P X G = ((P, X), tt)
     good-merged p e (c ∷ g) P X G = elim (both (same (c .owner) p)) [
@@ -157,7 +156,7 @@ module _ {N M : Type 0} (f : N → M) (same : N → N → Bool) (same′ : M →
     | inr a ↦ rw (← agree (c .owner) p (G .0 .0) P, a) (mapped-find p g P (G .1))
   ]
 
-  pub mapped-merged : (p : N) (e : Expr N) (g : List (Combined N)) → Good p → Each (GoodCombined Good) g
+  mapped-merged : (p : N) (e : Expr N) (g : List (Combined N)) → Good p → Each (GoodCombined Good) g
       → merged same′ (f p) (mapExpr f e) (map (mapCombined f) g) ≡ map (mapCombined f) (merged same p e g)
   unfolding merged Each
   mapped-merged p e [] P G = refl
@@ -165,15 +164,6 @@ module _ {N M : Type 0} (f : N → M) (same : N → N → Bool) (same′ : M →
     | inl a ↦ rw (← agree (c .owner) p (G .0 .0) P, a, map-merged f (c .expr) e)
     | inr a ↦ rw (← agree (c .owner) p (G .0 .0) P, a) (ap (λ (l : List (Combined M)). mapCombined f c ∷ l) (mapped-merged p e g P (G .1)))
   ]
-
-  pub mapped-entered : (place : ℕ) (p : N) (e : Expr N) (g : List (Combined N)) → Good p → Each (GoodCombined Good) g
-      → entered same′ place (f p) (mapExpr f e) (map (mapCombined f) g) ≡ mapped (map (mapCombined f)) (entered same place p e g)
-  unfolding entered vacant
-  mapped-entered place p e g P G = rw (mapped-find p g P G, mapped-merged p e g P G) (go (find same p g))
-    where
-      go : (o : Option (Expr N)) → vacant same′ place (mapFound f o) (map (mapCombined f) (merged same p e g)) ≡ mapped (map (mapCombined f)) (vacant same place o (merged same p e g))
-      go none = refl
-      go (some d) = refl
 
   mapped-all : (cs g : List (Combined N)) → Each (GoodCombined Good) cs → Each (GoodCombined Good) g
       → mergedOnto same′ (map (mapCombined f) g) (map (mapCombined f) cs) ≡ map (mapCombined f) (mergedOnto same g cs)

@@ -7,31 +7,17 @@ use lib.ListN.{length, take, drop, getD, length-append, length-drop}
 use lib.Seq.{length-take-le, take-at, take-all, take-add, drop-at, drop-drop, getD-drop}
 use Rattle.expression.specs.MeaningExpression.{Expr, reference, andor, «and», oneof}
 use Rattle.expression.specs.MirrorNodes.{flat}
-use Rattle.expression.proofs.Spans.{flat-long, flat-injective}
+use Rattle.expression.proofs.Spans.{flat-long, span-at, flat-one}
 use Rattle.merging.specs.MeaningMerging.{Combined, Pair}
 use Rattle.merging.specs.MirrorStream.{streamOf, paired, pairsOf, Records, RecordsFrom}
 
 -- ---- the numbers determine the records
-pub span-at : (e : Expr ℕ) (r : List ℕ) → getD (flat e ++ r) 2 0 ≡ length (flat e)
-unfolding flat
-span-at (reference n) r = refl
-span-at (andor t) r = refl
-span-at («and» t) r = refl
-span-at (oneof t) r = refl
-
 kind-at : (e : Expr ℕ) (r : List ℕ) → getD (flat e ++ r) 0 0 ≡ getD (flat e) 0 0
 unfolding flat
 kind-at (reference n) r = refl
 kind-at (andor t) r = refl
 kind-at («and» t) r = refl
 kind-at (oneof t) r = refl
-
-flat-first : (x y : Expr ℕ) (r s : List ℕ) → flat x ++ r ≡ flat y ++ s → (x ≡ y) × (r ≡ s)
-flat-first x y r s e =
-    let n : length (flat x) ≡ length (flat y) = sym (span-at x r) ∙ ap (λ (l : List ℕ). getD l 2 0) e ∙ span-at y s in (
-      flat-injective x y (sym (take-at (flat x) r (length (flat y)) n) ∙ ap (take (length (flat y))) e ∙ take-at (flat y) s (length (flat y)) refl),
-      sym (drop-at (flat x) r (length (flat y)) n) ∙ ap (drop (length (flat y))) e ∙ drop-at (flat y) s (length (flat y)) refl,
-    )
 
 abbrev combined : ℕ → Expr ℕ → Combined ℕ
 combined n e = record { owner = n; expr = e }
@@ -48,7 +34,7 @@ stream-injective [] [] e = refl
 stream-injective [] (d ∷ ds) e = let z : _≡_ {A = ℕ} 0 1 = cc in absurd (omega arith)
 stream-injective (c ∷ cs) [] e = let z : _≡_ {A = ℕ} 0 1 = cc in absurd (omega arith)
 stream-injective (c ∷ cs) (d ∷ ds) e =
-    let i = flat-first (c .expr) (d .expr) (streamOf cs) (streamOf ds) (cc) in
+    let i = flat-one (c .expr) (d .expr) (streamOf cs) (streamOf ds) (cc) in
     let h : c ≡ d = same-record c d (cc) (i .0) in
     let t : cs ≡ ds = stream-injective cs ds (i .1) in
     cc
@@ -76,6 +62,10 @@ pub stream-append : (cs ds : List (Combined ℕ)) → streamOf (cs ++ ds) ≡ st
 unfolding streamOf
 stream-append [] ds = refl
 stream-append (c ∷ cs) ds = rw (stream-append cs ds) (ap (λ (l : List ℕ). c .owner ∷ l) (sym (append-assoc (flat (c .expr)) (streamOf cs) (streamOf ds))))
+
+-- pairs behind rules
+pub stream-both : (cs : List (Combined ℕ)) (xs : List (Pair ℕ)) → streamOf (cs ++ map paired xs) ≡ streamOf cs ++ pairsOf xs
+stream-both cs xs = stream-append cs (map paired xs)
 
 -- ---- a walk: the records before a place, and those from it on
 pub record Walk (l : List ℕ) (at : ℕ) : Type 0 where
@@ -112,7 +102,7 @@ pub record Next (l : List ℕ) (at : ℕ) (left : List (Combined ℕ)) : Type 0 
   pub fits : at + 1 + getD l (at + 3) 0 ≤ length l
   pub long : 3 ≤ getD l (at + 3) 0
 
-pub next-record : (l : List ℕ) (at : ℕ) (left : List (Combined ℕ)) → drop at l ≡ streamOf left → at < length l → Next l at left
+next-record : (l : List ℕ) (at : ℕ) (left : List (Combined ℕ)) → drop at l ≡ streamOf left → at < length l → Next l at left
 unfolding streamOf
 next-record l at [] d lt = absurd (omega (arith, length-drop at l, ap length d))
 next-record l at (c ∷ cs) d lt =
@@ -135,7 +125,7 @@ next-record l at (c ∷ cs) d lt =
     }
 
 module _ {l : List ℕ} {at : ℕ} (w : Walk l at) where
-  pub walk-all : l ≡ streamOf (w .before ++ w .left)
+  walk-all : l ≡ streamOf (w .before ++ w .left)
   walk-all = sym (take-all (at + (length l - at)) l (omega arith)) ∙ take-add at (length l - at) l ∙ rw (w .done, take-all (length l - at) (drop at l) (omega (arith, length-drop at l)), w .stands) (sym (stream-append (w .before) (w .left)))
 
   pub walk-same : (cs : List (Combined ℕ)) → l ≡ streamOf cs → w .before ++ w .left ≡ cs

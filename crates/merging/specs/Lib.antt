@@ -2,5 +2,7 @@
 pub mod MeaningMerging
 pub mod MeaningItems
 pub mod MeaningNumbering
+pub mod MeaningRenaming
+pub mod MeaningFirsts
 pub mod Claims
 pub mod MirrorStream

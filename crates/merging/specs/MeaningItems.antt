@@ -1,18 +1,11 @@
--- The items of one owner, and its expression from them alone.
+-- The items of one owner, and its expression from them alone; and the steps over all items.
 use mathlib.Core.List.{List, [], _∷_}
 use mathlib.Core.Bool.{Bool, cond}
 use mathlib.Core.Option.{Option, none, some}
-use Rattle.expression.specs.MeaningExpression.{Expr, Terms, append, isInSome}
-use Rattle.expression.specs.MeaningExpression.Expr.{reference, andor, «and», oneof}
-use Rattle.expression.specs.MeaningExpression.Terms.{end, _then_}
-use Rattle.merging.specs.MeaningMerging.{Combined, Pair, references}
-
--- the factors that an expression brings into an ANDOR
-unfoldable pub factors : {N : Type 0} → Expr N → Terms N
-factors (andor t) = t
-factors (reference n) = reference n then end
-factors («and» t) = «and» t then end
-factors (oneof t) = oneof t then end
+use Rattle.expression.specs.MeaningExpression.{Expr, Terms, append, isInSome, factors}
+use Rattle.expression.specs.MeaningExpression.Expr.{andor}
+use Rattle.expression.specs.MeaningExpression.Terms.{end}
+use Rattle.merging.specs.MeaningMerging.{Combined, Pair, references, merged, withSubtypes}
 
 module _ {N : Type 0} (same : N → N → Bool) (p : N) where
   -- its rule and constraints, in order
@@ -45,3 +38,15 @@ combine es (x ∷ xs) = some (andor (allFactors es (references (x ∷ xs))))
 -- the expression of p, from its own items
 unfoldable pub combinedOf : {N : Type 0} → (N → N → Bool) → N → List (Combined N) → List (Pair N) → Option (Expr N)
 combinedOf same p cs xs = combine (exprsOf same p cs) (fresh same (exprsOf same p cs) (subsOf same p xs))
+
+-- ---- all steps
+
+module _ {N : Type 0} (same : N → N → Bool) where
+  -- rules and constraints merged in their order (steps b and d)
+  unfoldable pub mergedOnto : List (Combined N) → List (Combined N) → List (Combined N)
+  mergedOnto g [] = g
+  mergedOnto g (c ∷ cs) = mergedOnto (merged same (c .owner) (c .expr) g) cs
+
+  -- all of it, from what the sheet says in order: rules and constraints, and names in SUBTYPE OF
+  unfoldable pub gathered : List (Combined N) → List (Pair N) → List (Combined N)
+  gathered cs xs = withSubtypes same xs (mergedOnto [] cs)

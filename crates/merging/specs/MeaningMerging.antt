@@ -1,7 +1,7 @@
 -- What gathering keeps: owners with their expressions, in order of first entry. Owners and references are names of any kind that can be compared.
 use Prim.Native.Nat.{ℕ}
 use mathlib.Core.List.{List, [], _∷_, _++_}
-use mathlib.Core.Bool.{Bool, true, false, cond, not}
+use mathlib.Core.Bool.{Bool, cond}
 use mathlib.Core.Option.{Option, none, some}
 use Rattle.refusal.specs.MeaningAnswer.{Answer, done, refused}
 use Rattle.expression.specs.MeaningExpression.{Expr, Terms, isIn, andorMut}
@@ -80,12 +80,3 @@ module _ {N : Type 0} (same : N → N → Bool) where
   -- step c
   unfoldable pub withSubtypes : List (Pair N) → List (Combined N) → List (Combined N)
   withSubtypes xs g = withGroups (grouped xs) g
-
-  -- rules and constraints merged in their order (steps b and d)
-  unfoldable pub mergedOnto : List (Combined N) → List (Combined N) → List (Combined N)
-  mergedOnto g [] = g
-  mergedOnto g (c ∷ cs) = mergedOnto (merged (c .owner) (c .expr) g) cs
-
-  -- all of it, from what the sheet says in order: rules and constraints, and names in SUBTYPE OF
-  unfoldable pub gathered : List (Combined N) → List (Pair N) → List (Combined N)
-  gathered cs xs = withSubtypes xs (mergedOnto [] cs)

@@ -9,7 +9,7 @@ use lib.ListN.{length, take, drop}
 use Rattle.expression.specs.MeaningExpression.{Expr, reference, andor, «and», oneof}
 use Rattle.expression.specs.MirrorNodes.{flat}
 use Rattle.merging.specs.MeaningMerging.{Combined, Pair}
-use Rattle.merging.specs.Claims.{firsts}
+use Rattle.merging.specs.MeaningFirsts.{firsts}
 use Rattle.merging.specs.declared.Combination.{Combination}
 use Rattle.merging.specs.declared.Entry as entry
 use Rattle.merging.specs.declared.Entry.{Entry}

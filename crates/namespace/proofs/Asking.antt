@@ -3,46 +3,43 @@ use mathlib.Core.Path.{_≡_, refl, sym, ap, _∙_, subst}
 use mathlib.Core.List.{List, [], _∷_, _++_}
 use mathlib.Core.Option.{Option, none, some}
 use mathlib.Core.Bool.{Bool, true, false, cond}
-use Prim.Native.Nat.{ℕ, _+_, _-_, _<_, _≤_}
+use Prim.Native.Nat.{ℕ, _+_, _-_, _≤_}
 use native.Mathlib.Omega.{arith}
 use lib.Dec.{eqb}
 use lib.ListN.{length, take, drop, length-append}
 use Rattle.refusal.specs.MeaningAnswer.{Answer, done, refused, mapped}
 use Rattle.refusal.specs.declared.Refusal.{Refusal}
-use Rattle.sheet.specs.MeaningReading.{Reading}
+use Rattle.grammar.specs.MeaningReading.{Reading}
 use Rattle.sheet.specs.MeaningName.{Name}
 use Rattle.sheet.specs.MeaningSheet.{tagOf}
-use Rattle.sheet.proofs.Choosing.{clash}
+use Rattle.grammar.proofs.Choosing.{clash}
 use Rattle.scope.specs.Told.{toldScope, toldPath}
 use Rattle.scope.specs.MeaningScope as meaning
 use Rattle.scope.specs.MeaningScope.{Step}
-use Rattle.scope.specs.MeaningQuery.{wordAt, nameAt, Question, resolveQuery, pathQuery}
-use Rattle.scope.specs.Claims.{Stand}
-use Rattle.scope.specs.Claims.Stand.{here, then}
+use Rattle.query.specs.MeaningQuery.{wordAt, nameAt, Question, resolveQuery, pathQuery}
+use Rattle.query.specs.Claims.{Stand}
+use Rattle.query.specs.Claims.Stand.{here, then}
 use Rattle.scope.specs.Held.{pathIn}
 use Rattle.scope.specs.MirrorScope.{Spans}
-use Rattle.scope.specs.MirrorQuery.{askedNameOf, askedPathOf}
-use Rattle.scope.specs.declared.AskedName.{AskedName}
-use Rattle.scope.specs.declared.AskedPath.{AskedPath}
-use Rattle.scope.specs.declared.Verdict.{Verdict}
-use Rattle.scope.specs.declared.Verdict.the-variants as verdict
-use Rattle.scope.proofs.Reaching.{Lies, NameLies, name-lies, StepLies, step-lies}
-use Rattle.scope.proofs.Precedence.{AllLie, step-back, spans-of, spans-none, steps-back, steps-fit}
-use Rattle.scope.proofs.Accepting.{path-done, resolve-done}
+use Rattle.query.specs.MirrorQuery.{askedNameOf, askedPathOf}
+use Rattle.query.specs.declared.AskedName.{AskedName}
+use Rattle.query.specs.declared.AskedPath.{AskedPath}
+use Rattle.query.specs.declared.Verdict.{Verdict}
+use Rattle.query.specs.declared.Verdict.the-variants as verdict
+use Rattle.query.proofs.Reaching.{Lies, NameLies, name-lies, StepLies, step-lies}
+use Rattle.query.proofs.Ordering.{AllLie, step-back, spans-of, spans-none, steps-back, steps-fit}
+use Rattle.query.proofs.Accepting.{path-done, resolve-done}
 use Rattle.lookup.specs.declared.Sought.{Sought}
 use Rattle.lookup.specs.declared.Sought.the-variants.{At, Past}
-use Rattle.namespace.specs.MeaningNamespace.{Declaration, answered, declarationFor, getOf, resolved, resolveOf}
-use Rattle.namespace.specs.MeaningOrder.{schemasIn, Answers}
-use Rattle.namespace.specs.Told.{toldFound, toldVerdict}
+use Rattle.declarations.specs.MeaningNamespace.{schemasIn, Declaration, answered, declarationFor, getOf, resolved, resolveOf}
+use Rattle.declarations.specs.Told.{toldFound}
+use Rattle.declarations.specs.MirrorNamespace.{soughtOf}
+use Rattle.declarations.specs.declared.Found.the-variants.{Number, Refused}
+use Rattle.declarations.proofs.Leading.{small-at}
+use Rattle.namespace.specs.MeaningOrder.{Answers}
+use Rattle.namespace.specs.Told.{toldVerdict}
 use Rattle.namespace.specs.Promises.{Promise-resolve, Promise-get}
-use Rattle.namespace.specs.MirrorNamespace.{Small, soughtOf}
-use Rattle.namespace.specs.declared.Found.the-variants.{Number, Refused}
 use Rattle.namespace.proofs.Clearing.{refused-first, cleared-short, cleared-asked, cleared-own}
-
--- ---- a number found
-
-pub small-at : (o : Sought) (n : ℕ) → Small o → o ≡ At n → n < 65536
-small-at o n g e = let z : n ≤ 65535 = rw e at g in omega arith
 
 -- ---- what a query asks for lies in its bytes
 
@@ -159,7 +156,7 @@ pub ruleset resolving = (name-order, name-in, name-scope, resolve-refused, resol
 
 -- ---- `get`
 
-told-path : (o : Answer meaning.Path) → toldVerdict (askedPathOf o .verdict) ≡ mapped (λ x. tt {0}) o
+pub told-path : (o : Answer meaning.Path) → toldVerdict (askedPathOf o .verdict) ≡ mapped (λ x. tt {0}) o
 unfolding toldVerdict askedPathOf
 told-path (refused n p) = refl
 told-path (done a) = refl
@@ -170,7 +167,7 @@ unfolding toldPath pathIn
 path-back q p e = let l = path-read q (done p) e in rw (steps-back q (p .scope) (l .0) (l .1), step-back q (p .item) (l .2)) refl
 
 -- and its spans
-pub path-spans : (q : List ℕ) (p : meaning.Path) → pathQuery q ≡ done p → Spans q (pathIn p .scope .one) × Spans q (pathIn p .item)
+path-spans : (q : List ℕ) (p : meaning.Path) → pathQuery q ≡ done p → Spans q (pathIn p .scope .one) × Spans q (pathIn p .item)
 unfolding pathIn
 path-spans q p e = let l = path-read q (done p) e in (steps-fit q (p .scope) (l .0) (l .1) .first, spans-of q (p .item) (l .2))
 

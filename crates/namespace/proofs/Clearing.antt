@@ -9,18 +9,18 @@ use lib.ListN.{length}
 use Rattle.refusal.specs.MeaningAnswer.{Answer, done, refused, mapped, orElse, _>>=_}
 use Rattle.refusal.specs.Told.{toldRefusal}
 use Rattle.refusal.specs.declared.Refusal.{Refusal}
-use Rattle.sheet.specs.MeaningReading.{Reading}
-use Rattle.sheet.specs.MeaningGrammar.{most-bytes}
+use Rattle.grammar.specs.MeaningReading.{Reading}
+use Rattle.grammar.specs.MeaningGrammar.{most-bytes}
 use Rattle.sheet.specs.MeaningSheet.{Is}
 use Rattle.sheet.specs.Told.{told}
 use Rattle.sheet.specs.Promises.{Promise-verdict}
 use Rattle.sheet.specs.Claims.{AllBytes}
 use Rattle.sheet.specs.declared.Judgement.{Judgement}
 use Rattle.sheet.specs.declared.Judgement.the-variants as judgement
-use Rattle.sheet.proofs.Choosing.{clash}
+use Rattle.grammar.proofs.Choosing.{clash}
 use Rattle.sheet.proofs.Proved.{one-verdict, some-verdict}
-use Rattle.scope.specs.declared.Verdict.{Verdict}
-use Rattle.scope.specs.declared.Verdict.the-variants.{Done, Refused}
+use Rattle.query.specs.declared.Verdict.{Verdict}
+use Rattle.query.specs.declared.Verdict.the-variants.{Done, Refused}
 use Rattle.namespace.specs.MeaningOrder.{inOrder, Answers}
 use Rattle.namespace.specs.Told.{toldVerdict}
 

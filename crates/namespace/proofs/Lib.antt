@@ -1,12 +1,5 @@
 -- The laws, each file after those that it cites.
-pub mod Picking
-pub mod Numbering
-pub mod Schemas
-pub mod Scopes
 pub mod Clearing
-pub mod Walks
-pub mod Namesakes
-pub mod Leading
 pub mod Asking
-pub mod Standing
+pub mod Naming
 pub mod Proved

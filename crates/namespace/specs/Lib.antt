@@ -1,9 +1,6 @@
--- Meanings, then promises and claims, then mirrors.
-pub mod MeaningNamespace
+-- Meanings, then promises and claims, then the mirror.
 pub mod MeaningOrder
-pub mod MeaningExamples
 pub mod Told
 pub mod Promises
 pub mod Claims
-pub mod MirrorNamespace
-pub mod MirrorDeclared
+pub mod MirrorNames

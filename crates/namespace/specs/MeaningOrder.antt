@@ -6,15 +6,9 @@ use mathlib.Core.Bool.{Bool}
 use lib.ListN.{length}
 use lib.Dec.{leb}
 use Rattle.refusal.specs.MeaningAnswer.{Answer, orElse, _>>=_}
-use Rattle.sheet.specs.MeaningReading.{Reading}
-use Rattle.sheet.specs.MeaningGrammar.{most-bytes}
+use Rattle.grammar.specs.MeaningReading.{Reading}
+use Rattle.grammar.specs.MeaningGrammar.{most-bytes}
 use Rattle.sheet.specs.MeaningSheet.{Is}
-use Rattle.schemas.specs.MeaningTree.{treeOf}
-use Rattle.schemas.specs.MeaningSchemas.{Schema, schemasOf}
-
--- the schemas of a sheet's bytes
-unfoldable pub schemasIn : List ℕ → List Schema
-schemasIn s = schemasOf (treeOf s)
 
 -- "Order: 1; 2; sheet faults ..; 15 ..", then the question's own answer: `long` says whether the workspace is long enough
 unfoldable pub inOrder : {A B : Type 0} → List ℕ → (long : Bool) → Answer (Unit {0}) → Answer A → (A → Answer B) → Answer B

@@ -4,14 +4,15 @@ use mathlib.Core.Path.{_≡_}
 use mathlib.Core.List.{List, []}
 use mathlib.Core.Bool.{true}
 use Rattle.refusal.specs.MeaningAnswer.{Answer, done, refused, mapped}
-use Rattle.sheet.specs.MeaningReading.{Reading}
+use Rattle.grammar.specs.MeaningReading.{Reading}
 use Rattle.scope.specs.MeaningScope.{Path}
-use Rattle.scope.specs.MeaningQuery.{resolveQuery, pathQuery}
-use Rattle.scope.specs.declared.Verdict.{Verdict}
-use Rattle.namespace.specs.MeaningNamespace.{resolveOf, getOf, pathAt}
-use Rattle.namespace.specs.MeaningOrder.{schemasIn, Answers}
-use Rattle.namespace.specs.Told.{toldFound, toldVerdict}
-use Rattle.namespace.specs.declared.Found.{Found}
+use Rattle.query.specs.MeaningQuery.{resolveQuery, pathQuery}
+use Rattle.query.specs.declared.Verdict.{Verdict}
+use Rattle.declarations.specs.MeaningNamespace.{schemasIn, resolveOf, getOf, pathAt}
+use Rattle.declarations.specs.Told.{toldFound}
+use Rattle.declarations.specs.declared.Found.{Found}
+use Rattle.namespace.specs.MeaningOrder.{Answers}
+use Rattle.namespace.specs.Told.{toldVerdict}
 
 -- `resolve`: the number of the declaration that a name means in a scope
 unfoldable pub Promise-resolve : Reading → (sheet query : List ℕ) → Found → Type 0

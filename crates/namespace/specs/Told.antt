@@ -1,16 +1,8 @@
 -- What the cases of the code's answers mean, in the paper's numbers.
-use Prim.Native.Nat.{ℕ}
 use Rattle.refusal.specs.MeaningAnswer.{Answer, done}
 use Rattle.refusal.specs.Told.{toldRefusal}
-use Rattle.scope.specs.declared.Verdict.{Verdict}
-use Rattle.scope.specs.declared.Verdict.the-variants as verdict
-use Rattle.namespace.specs.declared.Found.{Found}
-use Rattle.namespace.specs.declared.Found.the-variants.{Number, Refused}
-
--- a declaration's number, or why there is none
-unfoldable pub toldFound : Found → Answer ℕ
-toldFound (Number k) = done k
-toldFound (Refused why) = toldRefusal why
+use Rattle.query.specs.declared.Verdict.{Verdict}
+use Rattle.query.specs.declared.Verdict.the-variants as verdict
 
 -- nothing stands in the way, or what does
 unfoldable pub toldVerdict : Verdict → Answer (Unit {0})

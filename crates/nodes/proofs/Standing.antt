@@ -4,9 +4,10 @@ use mathlib.Core.List.{List, [], _∷_, _++_, append-assoc, append-nil}
 use Prim.Native.Nat.{ℕ, suc, _+_, _*_, _-_, _≤_, _<_, max}
 use native.Mathlib.Omega.{arith}
 use lib.ListN.{length, take, drop, set, getD, length-set, length-append, length-drop, drop-of-length-le}
-use lib.Seq.{take-at, take-set-lt, set-at, length-take-le, take-all, take-add, take-take, take-set-le, drop-cons, drop-append-seam, drop-drop}
+use lib.Seq.{take-at, length-take-le, take-all, take-add, take-take, take-set-le, drop-cons, drop-append-seam, drop-drop}
 use Rattle.expression.specs.MeaningExpression.{Expr, reference, Terms, end, _then_}
 use Rattle.expression.specs.MirrorNodes.{node, flat, flats, height, heights}
+use Rattle.expression.proofs.Spans.{patched}
 use Rattle.nodes.specs.MeaningBytes.{fieldOf, bytesOf, bytesOfAll}
 use Rattle.nodes.specs.MirrorBuilding.{Ends, Sort, an-expression, some-terms, Behind, Reads}
 use Rattle.nodes.specs.declared.Built.{Built}
@@ -126,14 +127,6 @@ reference-read bytes before after calls used n f five high room long two e =
     }
 
 -- ---- a node with terms
--- how many numbers a node takes is put in once its terms stand behind it
-patched : (w p x : List ℕ) (u m a b c v : ℕ) → length p ≡ u → u + 3 ≤ m → take m w ≡ (p ++ (a ∷ b ∷ c ∷ [])) ++ x → take m (set w (u + 2) v) ≡ p ++ (a ∷ b ∷ v ∷ x)
-patched w p x u m a b c v h g e =
-    let i : u + 2 < m = omega arith in
-    let n : length (p ++ (a ∷ b ∷ [])) ≡ u + 2 = length-append p (a ∷ b ∷ []) ∙ omega arith in
-    let f : (p ++ (a ∷ b ∷ c ∷ [])) ++ x ≡ (p ++ (a ∷ b ∷ [])) ++ (c ∷ x) = append-assoc p (a ∷ b ∷ c ∷ []) x ∙ sym (append-assoc p (a ∷ b ∷ []) (c ∷ x)) in
-    take-set-lt m w (u + 2) v i ∙ ap (λ (l : List ℕ). set l (u + 2) v) (e ∙ f) ∙ set-at (p ++ (a ∷ b ∷ [])) c x v (u + 2) n ∙ append-assoc p (a ∷ b ∷ []) (v ∷ x)
-
 -- a field of a kind's tag, as its terms are read
 pub record Node (bytes before put after : List ℕ) (calls used body kind : ℕ) (r : Built) : Type 0 where
   pub node : (body ≡ used + 3) × (put ≡ take used before ++ ((kind ∷ 0 ∷ 0 ∷ []) ++ drop (used + 3) before))

@@ -1,4 +1,2 @@
 -- The laws that the proofs of this crate cite.
-pub mod Evaluating
-pub mod Parts
 pub mod Listed

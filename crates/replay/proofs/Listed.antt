@@ -1,14 +1,14 @@
 -- Whether a listing has a line: nothing was made and all is left, or something was made.
-use mathlib.Core.Path.{_≡_, refl, sym, _∙_, ap}
+use mathlib.Core.Path.{_≡_, refl, _∙_, ap}
 use mathlib.Core.List.{List, [], _∷_}
 use mathlib.Core.Bool.{Bool, true, false}
 use Prim.Native.Nat.{ℕ, _<_}
 use native.Mathlib.Omega.{arith}
 use Rattle.refusal.specs.MeaningAnswer.{Answer}
-use Rattle.sheet.specs.MeaningReading.{Reading}
+use Rattle.grammar.specs.MeaningReading.{Reading}
 use Rattle.scope.specs.MeaningScope.{Path}
-use Rattle.namespace.specs.MeaningOrder.{schemasIn}
-use Rattle.type_ref.proofs.Proved.{walks-on}
+use Rattle.declarations.specs.MeaningNamespace.{schemasIn}
+use Rattle.named_types.proofs.Proved.{walks-on}
 use Rattle.listing.specs.MeaningWhole.{AllWalked, Lists}
 use Rattle.lister.specs.MirrorRest.{Lines, Rest, Gives, Starts, GivesFirst}
 use Rattle.lister.specs.declared.Cursor.{Cursor}

@@ -4,7 +4,7 @@ use mathlib.Core.Path.{_≡_}
 use mathlib.Core.List.{List, [], _∷_}
 use mathlib.Core.Bool.{Bool, true, false}
 use Rattle.refusal.specs.MeaningAnswer.{Answer}
-use Rattle.sheet.specs.MeaningReading.{Reading}
+use Rattle.grammar.specs.MeaningReading.{Reading}
 use Rattle.scope.specs.MeaningScope.{Path}
 use Rattle.listing.specs.MeaningWhole.{AllWalked}
 use Rattle.lister.specs.MirrorRest.{Lines, Rest}

@@ -1,20 +1,20 @@
 // The question `listing`. Its answer is written line by line: it may be longer than any buffer here.
 ghost use Rattle.sheet.specs.Told.{toldReading};
 ghost use mathlib.Core.Path.{_≡_};
-ghost use Rattle.sheet.specs.MeaningReading.Reading.{rust};
+ghost use Rattle.grammar.specs.MeaningReading.Reading.{rust};
 ghost use Rattle.listing.specs.MeaningWhole.{Lists};
 ghost use Rattle.lister.specs.MirrorRest.{Lines, AtCursor};
 ghost use Rattle.replay.specs.Listed.{hasLine, Told};
-use constraints::WORK;
 use libc::STDOUT_FILENO;
 use lister::Cursor;
 use lister::LINE;
 use lister::next_line;
 use lister::start;
 use sheet::Reading;
+use supertypes::WORK;
 
 // Two digits a byte.
-const DIGITS: usize = 1600;
+const DIGITS: usize = 2 * LINE;
 
 const NAMES: usize = 1024;
 

@@ -2,13 +2,8 @@
 ghost use Prim.Native.Nat.{_≤_};
 ghost use lib.ListN.{length};
 
-mod answers;
 mod listings;
-mod names;
-mod operators;
 mod questions;
-mod supertypes;
-mod valuing;
 
 use libc::STDIN_FILENO;
 use libc::STDOUT_FILENO;
@@ -37,7 +32,7 @@ fn read_more(text: &mut [u8], held: usize) -> usize
 
 // A question `listing`: its answer may be longer than any buffer here, so it is written as it is made.
 fn answer_listing(line: &[u8]) {
-    let mut bytes = [0u8; names::SHEET];
+    let mut bytes = [0u8; questions::SHEET];
     let Number::Is(count) = lines::bytes(lines::word(line, 1), &mut bytes) else {
         io::write_all(STDOUT_FILENO, b"unknown\n");
         return;

@@ -1,17 +1,17 @@
 -- A forest whose places are counted off by its lengths. Where bytes say a forest, it is their tree, and its fields stand at these places.
 use mathlib.Core.Path.{_≡_, refl, sym, ap, _∙_, subst}
 use mathlib.Core.List.{List}
-use mathlib.Core.Bool.{true, false}
+use mathlib.Core.Bool.{true}
 use Prim.Native.Nat.{ℕ, _+_, _-_, _≤_}
 use native.Mathlib.Omega.{arith}
 use borrow.Author.Tests.{lt-ltb}
 use lib.Dec.{ltb}
 use lib.ListN.{length, take, drop}
-use Rattle.sheet.specs.MeaningReading.{Reading}
-use Rattle.sheet.specs.MeaningGrammar.{kindOf}
+use Rattle.grammar.specs.MeaningReading.{Reading}
+use Rattle.grammar.specs.MeaningGrammar.{kindOf}
 use Rattle.sheet.specs.MeaningSheet.{tagOf, endOf}
 use Rattle.sheet.specs.MirrorField.{fieldAt}
-use Rattle.sheet.specs.declared.Header.the-variants.{Field, Passes}
+use Rattle.sheet.specs.declared.Header.the-variants.{Passes}
 use Rattle.forest.specs.MeaningForest.{Forest, encode, Right}
 use Rattle.forest.specs.MeaningForest.Forest.{nil as no-fields, leaf as plain, node as nested}
 use Rattle.forest.specs.MeaningPlaces.{nests}
@@ -19,7 +19,7 @@ use Rattle.forest.proofs.Laying.{part, length-part, Read, read, Laid as Header-
 use Rattle.forest.proofs.Proved.{sound-plain}
 use Rattle.schemas.specs.MeaningTree.{Tree, treeAt}
 use Rattle.schemas.specs.MeaningTree.Tree.{nil, leaf, node}
-use Rattle.schemas.proofs.Trees.{onto, Grows, grows}
+use Rattle.schemas.proofs.Trees.{Grows, grows}
 
 -- the fields from a place on
 abbrev pub place : ℕ → Forest → Tree

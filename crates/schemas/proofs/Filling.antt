@@ -6,10 +6,11 @@ use mathlib.Core.Bool.{Bool, true, false, cond}
 use Prim.Native.Nat.{ℕ}
 use borrow.Author.Tests.{eqb-true}
 use lib.Dec.{eqb}
-use Rattle.sheet.specs.MeaningGrammar.{oneOf, Slot, needed, again, Fills}
-use Rattle.sheet.specs.MeaningGrammar.Often.{one, atMostOne, any}
-use Rattle.sheet.specs.MeaningGrammar.Fills.{done, skip, last, more}
-use Rattle.sheet.proofs.Choosing.{clash, opposed}
+use Rattle.grammar.proofs.Sequences.{in-left, in-right}
+use Rattle.grammar.specs.MeaningGrammar.{oneOf, Slot, needed, again, Fills}
+use Rattle.grammar.specs.MeaningGrammar.Often.{one, atMostOne, any}
+use Rattle.grammar.specs.MeaningGrammar.Fills.{done, skip, last, more}
+use Rattle.grammar.proofs.Choosing.{clash, opposed}
 
 -- ---- a tag that is one of some, tried one by one
 
@@ -81,24 +82,6 @@ module _ {x : Slot} {u : ℕ} {us : List ℕ} where
 abbrev pub tagsOf : List Slot → List ℕ
 tagsOf [] = []
 tagsOf (x ∷ xs) = x .tags ++ tagsOf xs
-
-in-left : (ts us : List ℕ) (t : ℕ) → oneOf ts t ≡ true → oneOf (ts ++ us) t ≡ true
-unfolding oneOf
-in-left [] us t q = clash (cc)
-in-left (u ∷ ts) us t q = go (eqb u t) q (in-left ts us t)
-  where
-    go : (b : Bool) → cond b true (oneOf ts t) ≡ true → (oneOf ts t ≡ true → oneOf (ts ++ us) t ≡ true) → cond b true (oneOf (ts ++ us) t) ≡ true
-    go true k i = refl
-    go false k i = i k
-
-in-right : (ts us : List ℕ) (t : ℕ) → oneOf us t ≡ true → oneOf (ts ++ us) t ≡ true
-unfolding oneOf
-in-right [] us t q = q
-in-right (u ∷ ts) us t q = go (eqb u t) (in-right ts us t q)
-  where
-    go : (b : Bool) → oneOf (ts ++ us) t ≡ true → cond b true (oneOf (ts ++ us) t) ≡ true
-    go true i = refl
-    go false i = i
 
 abbrev pub All : List ℕ → List ℕ → Type 0
 All ts [] = Unit {0}

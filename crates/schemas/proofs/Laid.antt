@@ -12,13 +12,14 @@ use Rattle.sheet.specs.MeaningSheet.{tagOf, sizeOf, endOf, valueOf}
 use Rattle.sheet.specs.MirrorField.{fieldAt}
 use Rattle.sheet.specs.declared.Header.{Header}
 use Rattle.sheet.specs.declared.Header.the-variants.{Field, Passes}
-use Rattle.sheet.proofs.Choosing.{either, clash}
+use Rattle.grammar.proofs.Choosing.{either, clash}
 use Rattle.forest.specs.MeaningForest.{field, encode}
 use Rattle.forest.specs.MeaningPlaces.{nests}
 use Rattle.forest.proofs.Laying.{part, read}
-use Rattle.schemas.specs.MeaningTree.{Tree, bare, grow, treeBy, treeAt, treeOf}
+use Rattle.schemas.specs.MeaningTree.{Tree, grow, treeBy, treeAt, treeOf}
+use Rattle.schemas.specs.MeaningBare.{bare}
 use Rattle.schemas.specs.MeaningTree.Tree.{nil, leaf, node}
-use Rattle.schemas.specs.MeaningStanding.{StandAt, Whole}
+use Rattle.schemas.specs.MeaningStanding.{Whole}
 
 prefix : (b c xs : List ℕ) (m : ℕ) → b ++ c ≡ take m xs → take (length b) xs ≡ b
 prefix [] c [] m q = refl

@@ -16,7 +16,7 @@ use Rattle.expression.specs.MeaningExpression.Terms.{end, _then_}
 use Rattle.forest.specs.MeaningForest.{Forest, encode}
 use Rattle.forest.specs.MeaningForest.Forest.{nil as no-fields, leaf as plain}
 use Rattle.schemas.specs.MeaningTree.{Tree}
-use Rattle.schemas.specs.MeaningSchemas.{Body, TypeDecl, Mark, Entity, Constraint, Schema, nameAt, nameOf, namesOf, termsOf, firstOf, exprOf, bodyOf, ruled, markOf, supertypesOf, typeOf, entityOf, constraintOf, each, schemaOf, schemasOf}
+use Rattle.schemas.specs.MeaningSchemas.{Body, Mark, Schema, nameAt, nameOf, namesOf, termsOf, firstOf, exprOf, bodyOf, ruled, markOf, supertypesOf, typeOf, entityOf, constraintOf, each, schemaOf, schemasOf}
 use Rattle.schemas.specs.MeaningSchemas.Body.{simple, enumeration, named, other}
 use Rattle.schemas.specs.MeaningSchemas.Mark.{unmarked, rule, abstract-entity, abstract-supertype}
 use Rattle.schemas.specs.MeaningBack.{nameThen, namesBack, exprThen, termsBack, exprBack, bodyBack, markThen, supertypesBack, typeBack, entityBack, constraintBack, eachThen, schemaBack, forestOfSchemas}

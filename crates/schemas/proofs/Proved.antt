@@ -6,7 +6,7 @@ use native.Mathlib.Omega.{arith}
 use lib.ListN.{length}
 use lib.Seq.{take-length}
 use Rattle.forest.specs.MeaningForest.{encode}
-use Rattle.forest.specs.MeaningPlaces.{forestOf, forestAt}
+use Rattle.forest.specs.MeaningDecoding.{forestOf, forestAt}
 use Rattle.forest.proofs.Laying.{part}
 use Rattle.forest.proofs.Proved as forests
 use Rattle.schemas.specs.MeaningTree.{Tree, treeOf}

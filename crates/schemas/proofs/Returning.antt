@@ -9,17 +9,18 @@ use native.Mathlib.Omega.{arith}
 use borrow.Author.Tests.{eqb-true, ne-eqb}
 use lib.Dec.{eqb, leb}
 use lib.ListN.{length, getD}
-use Rattle.sheet.specs.MeaningReading.{Reading}
+use Rattle.grammar.specs.MeaningReading.{Reading}
 use Rattle.sheet.specs.MeaningName.{Name}
-use Rattle.sheet.specs.MeaningGrammar.{oneOf, expressions, Often, Slot, slot, line, grammar, slotsIn, slotsOf, needed, again, Fills, kindOf, isSimple}
-use Rattle.sheet.specs.MeaningGrammar.Often.{one, atMostOne, any}
-use Rattle.sheet.specs.MeaningGrammar.Fills.{skip}
-use Rattle.sheet.specs.MeaningGrammar.Kind.{fields}
-use Rattle.sheet.proofs.Choosing.{clash, opposed, both}
+use Rattle.grammar.specs.MeaningGrammar.{oneOf, expressions, Often, Slot, slot, line, grammar, slotsIn, slotsOf, needed, again, Fills, kindOf, isSimple}
+use Rattle.grammar.specs.MeaningGrammar.Often.{one, atMostOne, any}
+use Rattle.grammar.specs.MeaningGrammar.Fills.{skip}
+use Rattle.grammar.specs.MeaningGrammar.Kind.{fields}
+use Rattle.grammar.proofs.Choosing.{clash, opposed, both}
 use Rattle.expression.specs.MeaningExpression.{Expr}
 use Rattle.forest.specs.MeaningForest.{Forest, tagsIn, Sound, Right, Fits}
 use Rattle.forest.specs.MeaningForest.Forest.{nil as no-fields, leaf as plain, node as nested}
-use Rattle.schemas.specs.MeaningTree.{Tree, bare}
+use Rattle.schemas.specs.MeaningTree.{Tree}
+use Rattle.schemas.specs.MeaningBare.{bare}
 use Rattle.schemas.specs.MeaningTree.Tree.{nil, leaf, node}
 use Rattle.schemas.specs.MeaningSchemas.{nameAt, nameOf, namesOf, termsOf, firstOf, exprOf, bodyOf, ruled, markOf, supertypesOf, typeOf, entityOf, constraintOf, each, schemaOf, schemasOf}
 use Rattle.schemas.specs.MeaningBack.{nameThen, namesBack, exprThen, termsBack, exprBack, bodyBack, markThen, supertypesBack, typeBack, entityBack, constraintBack, eachThen, schemaBack, forestOfSchemas}

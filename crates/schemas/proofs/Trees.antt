@@ -1,26 +1,30 @@
--- The tree at a place: `treeAt`'s equation, in which no count of steps is left; what it is by the header that stands there; and without its places the forest.
+-- The tree at a place: `treeAt`'s equation, in which no count of steps is left; what it is by the header that stands there; its fields with a tag, one by one; and without its places the forest.
 use mathlib.Core.Path.{_≡_, refl, sym, ap, ap₂, _∙_}
-use mathlib.Core.List.{List}
+use mathlib.Core.List.{List, _∷_}
 use mathlib.Core.Bool.{Bool, true, false, cond}
 use Prim.Native.Nat.{ℕ, zero, suc, _+_, _-_, _<_, _≤_}
 use native.Mathlib.Nat.{not-suc-le-zero, le-refl}
 use native.Mathlib.Omega.{arith}
-use borrow.Author.Tests.{ltb-true, ltb-false, leb-true, le-leb, lt-leb}
+use borrow.Author.Tests.{ltb-true, ltb-false, leb-true, le-leb, lt-leb, eq-eqb, ne-eqb}
 use lib.Dec.{ltb, leb}
 use lib.ListN.{length}
+use Rattle.grammar.specs.MeaningGrammar.{kindOf, oneOf}
 use Rattle.sheet.specs.MeaningSheet.{tagOf, sizeOf, endOf}
 use Rattle.sheet.specs.MirrorField.{fieldAt}
 use Rattle.sheet.specs.declared.Header.{Header}
 use Rattle.sheet.specs.declared.Header.the-variants.{Field, Passes}
-use Rattle.sheet.proofs.Choosing.{either}
+use Rattle.grammar.proofs.Choosing.{either}
 use Rattle.sheet.proofs.Deciding.{Inside, inside}
 use Rattle.forest.specs.MeaningForest.{Forest}
 use Rattle.forest.specs.MeaningForest.Forest.{leaf as plain, node as nested}
-use Rattle.forest.specs.MeaningPlaces.{nests, forestAt}
+use Rattle.forest.specs.MeaningPlaces.{nests}
+use Rattle.forest.specs.MeaningDecoding.{forestAt}
 use Rattle.forest.proofs.Laying.{part}
 use Rattle.forest.proofs.Growing.{Grown, grown, onto as bare-in}
-use Rattle.schemas.specs.MeaningTree.{Tree, bare, grow, treeBy, treeAt}
+use Rattle.schemas.specs.MeaningTree.{Tree, grow, treeBy, treeAt}
+use Rattle.schemas.specs.MeaningBare.{bare}
 use Rattle.schemas.specs.MeaningTree.Tree.{nil, leaf, node}
+use Rattle.schemas.specs.MeaningSchemas.{each}
 
 same-grow : (f g : ℕ → ℕ → Tree) (s : List ℕ) (at e : ℕ) → ((a b : ℕ) → at < a → a ≤ b → b ≤ e → f a b ≡ g a b) → grow f s at e ≡ grow g s at e
 unfolding grow
@@ -78,6 +82,20 @@ module _ (s : List ℕ) (at e : ℕ) where
       (λ k. either (Grows s at e) (ltb (e - (at + 3)) (sizeOf s at)) Passes _
       (λ w. cut (omega (arith, ltb-true (e - (at + 3)) (sizeOf s at) w)))
       (λ w. here (sizeOf s at) refl (omega (arith, ltb-false (e - at) 3 k, ltb-false (e - (at + 3)) (sizeOf s at) w))))
+
+-- fields with a tag that holds fields, one by one
+pub each-here : {A : Type 0} (u p : ℕ) (read : ℕ → Tree → A) (v : List ℕ) (g f : Tree) → each u read (onto true u p v g f) ≡ read p g ∷ each u read f
+unfolding each
+each-here u p read v g f = rw (eq-eqb u u refl)
+
+pub each-other : {A : Type 0} (u t p : ℕ) (read : ℕ → Tree → A) (b : Bool) (v : List ℕ) (g f : Tree) → (t ≡ u → ⊥) → each u read (onto b t p v g f) ≡ each u read f
+unfolding each
+each-other u t p read true v g f d = rw (ne-eqb t u d)
+each-other u t p read false v g f d = refl
+
+pub nests-schema : nests 0x01 ≡ true
+unfolding kindOf oneOf
+nests-schema = refl
 
 -- ---- without its places
 

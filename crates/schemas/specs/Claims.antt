@@ -5,15 +5,16 @@ use mathlib.Core.Logic.{_↔_}
 use mathlib.Core.List.{List}
 use lib.ListN.{length}
 use Rattle.refusal.specs.MeaningAnswer.{done}
-use Rattle.sheet.specs.MeaningReading.{Reading}
+use Rattle.grammar.specs.MeaningReading.{Reading}
 use Rattle.sheet.specs.MeaningSheet.{Is}
 use Rattle.sheet.specs.Told.{told}
 use Rattle.sheet.specs.Promises.{Promise-verdict}
 use Rattle.sheet.specs.Claims.{AllBytes}
 use Rattle.sheet.specs.declared.Judgement.{Judgement}
 use Rattle.forest.specs.MeaningForest.{Forest, encode, Fits}
-use Rattle.forest.specs.MeaningPlaces.{forestOf}
-use Rattle.schemas.specs.MeaningTree.{Tree, bare, grow, treeAt, treeOf}
+use Rattle.forest.specs.MeaningDecoding.{forestOf}
+use Rattle.schemas.specs.MeaningTree.{Tree, grow, treeAt, treeOf}
+use Rattle.schemas.specs.MeaningBare.{bare}
 use Rattle.schemas.specs.MeaningSchemas.{Schema, schemasOf}
 use Rattle.schemas.specs.MeaningBack.{forestOfSchemas}
 use Rattle.schemas.specs.MeaningUnplaced.{nowhere, unplaced}

@@ -1,5 +1,6 @@
 -- Meanings, then claims.
 pub mod MeaningTree
+pub mod MeaningBare
 pub mod MeaningSchemas
 pub mod MeaningBack
 pub mod MeaningUnplaced

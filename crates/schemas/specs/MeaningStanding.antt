@@ -4,7 +4,8 @@ use mathlib.Core.Path.{_≡_}
 use mathlib.Core.List.{List}
 use lib.ListN.{length, take, drop}
 use Rattle.forest.specs.MeaningForest.{field, encode}
-use Rattle.schemas.specs.MeaningTree.{Tree, bare}
+use Rattle.schemas.specs.MeaningTree.{Tree}
+use Rattle.schemas.specs.MeaningBare.{bare}
 use Rattle.schemas.specs.MeaningTree.Tree.{nil, leaf, node}
 
 -- these bytes stand at a place

@@ -5,21 +5,13 @@ use mathlib.Core.Bool.{cond}
 use lib.Dec.{leb}
 use lib.ListN.{length}
 use Rattle.sheet.specs.MeaningSheet.{tagOf, endOf, valueOf}
-use Rattle.forest.specs.MeaningForest.{Forest}
-use Rattle.forest.specs.MeaningForest.Forest.{nil as no-fields, leaf as plain, node as nested}
 use Rattle.forest.specs.MeaningPlaces.{nests}
 
--- a forest, each field with its place
+-- the fields of a value: none; one with a plain value, and those after it; or one with fields, and those after it
 pub data Tree : Type 0 where
   nil : Tree
   leaf : (tag place : ℕ) (value : List ℕ) (rest : Tree) → Tree
   node : (tag place : ℕ) (inner rest : Tree) → Tree
-
--- without the places
-abbrev pub bare : Tree → Forest
-bare nil = no-fields
-bare (leaf t p v f) = plain t v (bare f)
-bare (node t p g f) = nested t (bare g) (bare f)
 
 -- the field at `at` of a value that ends at e, and those after it, where go reads the fields between two places
 unfoldable pub grow : (ℕ → ℕ → Tree) → List ℕ → ℕ → ℕ → Tree

@@ -5,8 +5,8 @@ use mathlib.Core.Bool.{Bool, true, false, cond}
 use Prim.Native.Nat.{suc, _+_}
 use native.Mathlib.Omega.{arith}
 use lib.ListN.{length, length-append}
-use Rattle.sheet.specs.MeaningReading.{Reading}
-use Rattle.sheet.proofs.Choosing.{clash, both}
+use Rattle.grammar.specs.MeaningReading.{Reading}
+use Rattle.grammar.proofs.Choosing.{clash, both}
 use Rattle.scope.specs.MeaningScope.{Step, Scope, sameStep, sameScope, starts, Comparison, compared}
 use Rattle.scope.specs.MeaningScope.Comparison.{less, equal, greater, unordered}
 use Rattle.scope.specs.Claims.{Begins}

@@ -1,7 +1,7 @@
 -- Names compared byte by byte, and that equal names, steps and scopes are so as an equivalence has it.
 use mathlib.Core.Path.{_≡_, refl, sym, ap, _∙_}
 use mathlib.Core.List.{List, [], _∷_}
-use mathlib.Core.Bool.{Bool, true, false, _&&_}
+use mathlib.Core.Bool.{Bool, true, false, _&&_, and-false}
 use Prim.Native.Nat.{ℕ, suc, _+_, _<_, _≤_}
 use native.Mathlib.Numerals.{add-one}
 use native.Mathlib.Omega.{arith}
@@ -9,11 +9,11 @@ use borrow.Author.Tests.{eq-eqb, ne-eqb, eqb-true}
 use lib.Dec.{eqb}
 use lib.ListN.{length, getD, drop, drop-of-length-le}
 use lib.Seq.{drop-cons}
-use Rattle.sheet.specs.MeaningReading.{Reading}
-use Rattle.sheet.specs.MeaningReading.Reading.{rust}
+use Rattle.grammar.specs.MeaningReading.{Reading}
+use Rattle.grammar.specs.MeaningReading.Reading.{rust}
 use Rattle.sheet.specs.Told.{toldReading}
 use Rattle.sheet.specs.declared.Reading as code
-use Rattle.sheet.proofs.Choosing.{clash, both, and-false}
+use Rattle.grammar.proofs.Choosing.{clash, both}
 use Rattle.scope.specs.MeaningNames.{sameBytes, sameName}
 use Rattle.scope.specs.MeaningScope.{Step, Scope, placeOf, sameStep, sameScope}
 
@@ -67,7 +67,7 @@ unfolding sameBytes
 bytes-refl [] = refl
 bytes-refl (x ∷ xs) = rw (eq-eqb x x refl, bytes-refl xs) refl
 
-bytes-equal : (a b : List ℕ) → sameBytes a b ≡ true → a ≡ b
+pub bytes-equal : (a b : List ℕ) → sameBytes a b ≡ true → a ≡ b
 unfolding sameBytes
 bytes-equal [] [] e = refl
 bytes-equal [] (y ∷ ys) e = clash (cc)

@@ -1,11 +1,5 @@
 pub mod Equality
 pub mod Holding
-pub mod Standing
-pub mod Reaching
-pub mod Routes
-pub mod Lent
 pub mod Precedence
 pub mod Beginnings
-pub mod Accepting
 pub mod Proved
-pub mod SmallQueries

@@ -1,15 +1,12 @@
 -- The claims of specs/Claims.antt.
-use mathlib.Core.Path.{_≡_, refl, sym, _∙_}
-use Prim.Native.Nat.{ℕ}
-use Rattle.sheet.proofs.Choosing.{clash}
-use Rattle.scope.specs.MeaningScope.{most-steps}
+use mathlib.Core.Path.{refl, ap}
+use Rattle.refusal.proofs.Same.{same-refusal}
+use Rattle.grammar.proofs.Choosing.{clash}
 use Rattle.scope.specs.Told.{toldCompared}
-use Rattle.scope.specs.Promises.{Promise-order}
-use Rattle.scope.specs.Claims.{Names-reflexive, Names-symmetric, Names-transitive, Order-reflexive, Equal-exactly, Greater-exactly, Less-exactly, Told-injective, OrderOnce, Scope-accepts, Scope-refuses, Path-accepts, Path-refuses, Resolve-accepts, Resolve-refuses, Step-moves, Word-moves, Scope-moves, Push-appends, Push-refuses, Pop-drops}
+use Rattle.scope.specs.Claims.{Names-reflexive, Names-symmetric, Names-transitive, Order-reflexive, Equal-exactly, Greater-exactly, Less-exactly, Told-injective, Push-appends, Push-refuses, Pop-drops}
 use Rattle.scope.specs.declared.Compared.the-variants.{Less, Equal, Greater, Unordered, Refused}
 use Rattle.scope.proofs.Equality.{name-refl, name-sym, name-trans, scope-refl}
 use Rattle.scope.proofs.Beginnings.{equal-same, same-equal, greater-begins, begins-greater, less-begins, begins-less}
-use Rattle.scope.proofs.Accepting.{step-moves, word-moves, taken-stand, scope-done, whole-scope, scope-fails, fails-scope, path-done, whole-path, path-fails, fails-path, resolve-done, asks-resolve, resolve-fails, fails-resolve}
 use Rattle.scope.proofs.Holding.{push-appends, push-refused, pop-drops}
 
 pub names-reflexive : Names-reflexive
@@ -32,9 +29,6 @@ greater-exactly rd a b = (greater-begins rd a b, begins-greater rd a b)
 
 pub less-exactly : Less-exactly
 less-exactly rd a b = (less-begins rd a b, begins-less rd a b)
-
-same-refusal : (n p m q : ℕ) → n ≡ m → p ≡ q → Refused (record { number = n; place = p }) ≡ Refused (record { number = m; place = q })
-same-refusal n p m q e f = rw (e, f) refl
 
 pub told-injective : Told-injective
 unfolding toldCompared
@@ -62,38 +56,7 @@ told-injective (Refused v) Less q = clash (cc)
 told-injective (Refused v) Equal q = clash (cc)
 told-injective (Refused v) Greater q = clash (cc)
 told-injective (Refused v) Unordered q = clash (cc)
-told-injective (Refused v) (Refused w) q = same-refusal (v .number) (v .place) (w .number) (w .place) (cc) (cc)
-
-pub order-once : OrderOnce
-unfolding Promise-order
-order-once rd left right r r' x y = told-injective r r' (x ∙ sym y)
-
-pub scope-accepts : Scope-accepts
-scope-accepts q xs = (scope-done q xs, whole-scope q xs)
-
-pub scope-refuses : Scope-refuses
-scope-refuses q n at = (scope-fails q n at, λ f. rw (f .0) (fails-scope q at (f .1)))
-
-pub path-accepts : Path-accepts
-path-accepts q p = (path-done q p, whole-path q p)
-
-pub path-refuses : Path-refuses
-path-refuses q n at = (path-fails q n at, λ f. rw (f .0) (fails-path q at (f .1)))
-
-pub resolve-accepts : Resolve-accepts
-resolve-accepts q a = (resolve-done q a, asks-resolve q a)
-
-pub resolve-refuses : Resolve-refuses
-resolve-refuses q n at = (resolve-fails q n at, λ f. rw (f .0) (fails-resolve q at (f .1)))
-
-pub stepping-moves : Step-moves
-stepping-moves = step-moves
-
-pub wording-moves : Word-moves
-wording-moves = word-moves
-
-pub scoping-moves : Scope-moves
-scoping-moves = taken-stand most-steps
+told-injective (Refused v) (Refused w) q = ap Refused (same-refusal v w (cc) (cc))
 
 pub pushing-appends : Push-appends
 pushing-appends = push-appends

@@ -1,8 +1,7 @@
 -- How steps, scopes and paths are held in the code's structs: what Told tells, the other way round.
 use mathlib.Core.List.{List, [], _∷_}
 use Rattle.scope.specs.MeaningScope as meaning
-use Rattle.scope.specs.MeaningScope.{Step}
-use Rattle.scope.specs.MeaningQuery.{stop}
+use Rattle.scope.specs.MeaningScope.{Step, stop}
 use Rattle.scope.specs.declared.ScopeType.{ScopeType}
 use Rattle.scope.specs.declared.ScopeType.the-variants.{Entity, Alias, Function, Procedure, Query, Repeat, Rule, Schema, SubType, «Type»}
 use Rattle.scope.specs.declared.Rung.{Rung}

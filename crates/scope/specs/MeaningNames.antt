@@ -3,8 +3,8 @@ use Prim.Native.Nat.{ℕ}
 use mathlib.Core.List.{List, [], _∷_}
 use mathlib.Core.Bool.{Bool, true, false, _&&_}
 use lib.Dec.{eqb}
-use Rattle.sheet.specs.MeaningReading.{Reading}
-use Rattle.sheet.specs.MeaningReading.Reading.{rust}
+use Rattle.grammar.specs.MeaningReading.{Reading}
+use Rattle.grammar.specs.MeaningReading.Reading.{rust}
 
 unfoldable pub sameBytes : List ℕ → List ℕ → Bool
 sameBytes [] [] = true

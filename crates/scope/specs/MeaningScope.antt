@@ -2,8 +2,9 @@
 use Prim.Native.Nat.{ℕ, _+_}
 use mathlib.Core.List.{List, [], _∷_}
 use mathlib.Core.Bool.{Bool, true, false, cond, _&&_}
+use lib.ListN.{length}
 use lib.Dec.{eqb}
-use Rattle.sheet.specs.MeaningReading.{Reading}
+use Rattle.grammar.specs.MeaningReading.{Reading}
 use Rattle.sheet.specs.MeaningName.{Name}
 use Rattle.scope.specs.MeaningNames.{sameName}
 
@@ -27,6 +28,10 @@ placeOf type = 9
 -- "tag 60 plus the ScopeType's place in its declaration (Entity 60, Schema 67, Type 69)"
 abbrev pub tagFor : ScopeType → ℕ
 tagFor k = 0x60 + placeOf k
+
+-- the place after a name, which is the place after its field
+abbrev pub stop : Name → ℕ
+stop x = x .at + length (x .bytes)
 
 -- one step of a scope, or a path's item
 pub record Step : Type 0 where

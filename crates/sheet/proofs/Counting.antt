@@ -5,16 +5,16 @@ use Prim.Native.Nat.{ℕ, _+_, _<_, _≤_}
 use native.Mathlib.Omega.{arith}
 use borrow.Author.Tests.{ltb-true, ltb-false}
 use lib.Dec.{eqb, ltb}
-use Rattle.sheet.specs.MeaningGrammar.{Limit, most, counts}
-use Rattle.sheet.specs.MeaningGrammar.Limit.{schemas, declarations, constraints, terms}
+use Rattle.grammar.specs.MeaningGrammar.{Limit, most, counts}
+use Rattle.grammar.specs.MeaningGrammar.Limit.{schemas, declarations, constraints, terms}
 use Rattle.sheet.specs.MirrorCheck.{nextCount, thenTally, countUp}
 use Rattle.sheet.specs.declared.Counts.{Counts}
 use Rattle.sheet.specs.declared.Tally.{Tally}
 use Rattle.sheet.specs.declared.Tally.the-variants.{Upto, Beyond}
 use Rattle.sheet.specs.declared.Counted.{Counted}
 use Rattle.sheet.specs.declared.Counted.the-variants.{Within, Over}
-use Rattle.sheet.proofs.Choosing.{either, clash}
-use Rattle.sheet.proofs.Tabulated.{own}
+use Rattle.grammar.proofs.Choosing.{either, clash}
+use Rattle.grammar.proofs.Tabulated.{own}
 
 -- the count n after a field, where b: it counts
 abbrev Tallied : Bool → ℕ → ℕ → Tally → Type 0

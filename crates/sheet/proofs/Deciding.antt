@@ -8,14 +8,16 @@ use borrow.Author.Tests.{lt-ltb, le-ltb, le-leb, lt-leb, eq-eqb, ne-eqb, ltb-tru
 use lib.Dec.{ltb, eqb}
 use lib.ListN.{length, getD, take, drop, List·getD-eq-default}
 use Rattle.refusal.specs.declared.Refusal.{Refusal}
-use Rattle.sheet.specs.MeaningReading.{Reading}
+use Rattle.grammar.specs.MeaningReading.{Reading}
 use Rattle.sheet.specs.MeaningName.{isName}
-use Rattle.sheet.specs.MeaningGrammar.{most-bytes, most-depth, most}
-use Rattle.sheet.specs.MeaningGrammar.Limit.{schemas, declarations, constraints, terms}
+use Rattle.grammar.specs.MeaningGrammar.{most-bytes, most-depth, most}
+use Rattle.grammar.specs.MeaningGrammar.Limit.{schemas, declarations, constraints, terms}
 use Rattle.sheet.specs.MeaningSheet.{tagOf, sizeOf}
-use Rattle.sheet.specs.MirrorTable.{rowCount, cellAt, rowOf, answerAt}
+use Rattle.grammar.specs.MirrorTable.{rowCount, cellAt, rowOf, answerAt}
+use Rattle.sheet.specs.Told.{toldReading}
 use Rattle.sheet.specs.MirrorField.{fieldAt}
 use Rattle.sheet.specs.MirrorCheck.{kindFault, lengthFault, valueFault, depthFault, orNext, fieldFault, nextCount, thenTally, countUp, stopAt, atEnd, goOn, onCount, onFault, onHeader, stepAt, walkAt, noCounts, sheetCheck}
+use Rattle.sheet.specs.declared.Reading as code
 use Rattle.sheet.specs.declared.Header.{Header}
 use Rattle.sheet.specs.declared.Header.the-variants.{Field, Passes}
 use Rattle.sheet.specs.declared.Counts.{Counts}
@@ -27,7 +29,7 @@ use Rattle.sheet.specs.declared.Step.{Step}
 use Rattle.sheet.specs.declared.Step.the-variants.{Done, Past, Into, Stop}
 use Rattle.sheet.specs.declared.Checked.{Checked}
 use Rattle.sheet.specs.declared.Checked.the-variants.{Refused}
-use Rattle.sheet.proofs.Choosing.{either, clash}
+use Rattle.grammar.proofs.Choosing.{either, clash}
 
 -- ---- the header
 
@@ -127,6 +129,11 @@ module _ (v : List ℕ) (r kind lo : ℕ) (q : kind ≡ cellAt r 7) (u : lo ≡ 
 pub ruleset measuring = (value-short, value-long, value-right)
 
 -- ---- the field
+
+-- each reading has its column
+pub answer-told : (reading : code.Reading) (i x : ℕ) → x ≡ cellAt i 10 → x ≡ answerAt (toldReading reading) i
+unfolding answerAt toldReading
+answer-told code.the-variants.Rust i x q = q
 
 module _ (rd : Reading) (v : List ℕ) (r d : ℕ) where
   pub fault-tag : rowCount ≤ r → 3 ≡ fieldFault rd v r d

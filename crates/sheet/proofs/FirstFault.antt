@@ -10,9 +10,9 @@ use borrow.Author.Tests.{le-leb, lt-leb, leb-true, leb-false}
 use lib.Dec.{leb}
 use lib.ListN.{length}
 use Rattle.refusal.specs.declared.Refusal.{Refusal}
-use Rattle.sheet.specs.MeaningReading.{Reading}
-use Rattle.sheet.specs.MeaningGrammar.{oneOf, expressions, kindOf, most-bytes, most-depth}
-use Rattle.sheet.specs.MeaningGrammar.Kind.{fields}
+use Rattle.grammar.specs.MeaningReading.{Reading}
+use Rattle.grammar.specs.MeaningGrammar.{oneOf, expressions, kindOf, most-bytes, most-depth}
+use Rattle.grammar.specs.MeaningGrammar.Kind.{fields}
 use Rattle.sheet.specs.MeaningSheet.{tagOf, endOf, Stood, howMany, Open, deep, Comes, Wrong, Fault, NotAfter, First}
 use Rattle.sheet.specs.MeaningSheet.Open.{within}
 use Rattle.sheet.specs.MeaningSheet.Comes.{start, into, past, out}
@@ -25,9 +25,9 @@ use Rattle.sheet.specs.declared.Step.{Step}
 use Rattle.sheet.specs.declared.Step.the-variants.{Done, Past, Into, Stop}
 use Rattle.sheet.specs.declared.Checked.{Checked}
 use Rattle.sheet.specs.declared.Checked.the-variants.{Accepted, Refused}
-use Rattle.sheet.proofs.Choosing.{clash}
+use Rattle.grammar.proofs.Choosing.{clash}
 use Rattle.sheet.proofs.Onward.{walk-eq}
-use Rattle.sheet.proofs.Tabulated.{Fit, sheet-fit}
+use Rattle.grammar.proofs.Tabulated.{Fit, sheet-fit}
 use Rattle.sheet.proofs.Judging.{countsOf, Judged, judged, from3}
 
 then-then : (x : Checked) (f g : Counts → Checked) → andThen (andThen x f) g ≡ andThen x (λ c. andThen (f c) g)

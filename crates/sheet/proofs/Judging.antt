@@ -7,16 +7,16 @@ use native.Mathlib.Omega.{arith}
 use borrow.Author.Tests.{eqb-true, eqb-false, ltb-true, ltb-false}
 use lib.Dec.{eqb, ltb}
 use lib.ListN.{length, length-take, length-drop}
-use Rattle.sheet.specs.MeaningReading.{Reading, answers}
-use Rattle.sheet.specs.MeaningReading.Reading.{rust}
+use Rattle.grammar.specs.MeaningReading.{Reading, answers}
+use Rattle.grammar.specs.MeaningReading.Reading.{rust}
 use Rattle.sheet.specs.MeaningName.{isName}
-use Rattle.sheet.specs.MeaningGrammar.{oneOf, expressions, slotsOf, Fills, Kind, kindOf, isSimple, most-bytes, most-depth, Limit, most, counts}
-use Rattle.sheet.specs.MeaningGrammar.Kind.{name, simple, empty, fields}
-use Rattle.sheet.specs.MeaningGrammar.Limit.{schemas, declarations, constraints, terms}
+use Rattle.grammar.specs.MeaningGrammar.{oneOf, expressions, slotsOf, Fills, Kind, kindOf, isSimple, most-bytes, most-depth, Limit, most, counts}
+use Rattle.grammar.specs.MeaningGrammar.Kind.{name, simple, empty, fields}
+use Rattle.grammar.specs.MeaningGrammar.Limit.{schemas, declarations, constraints, terms}
 use Rattle.sheet.specs.MeaningSheet.{tagOf, sizeOf, endOf, valueOf, Stood, howMany, Open, deep, Wrong}
 use Rattle.sheet.specs.MeaningSheet.Open.{within}
 use Rattle.sheet.specs.MeaningSheet.Wrong.{passes, badTag, badSimple, full, missing, badName, limit, depth, forbidden}
-use Rattle.sheet.specs.MirrorTable.{rowCount, cellAt, rowOf, answerAt}
+use Rattle.grammar.specs.MirrorTable.{rowCount, cellAt, rowOf, answerAt}
 use Rattle.sheet.specs.MirrorField.{fieldAt}
 use Rattle.sheet.specs.MirrorCheck.{valueFault, depthFault, orNext, fieldFault, countUp, stopAt, atEnd, goOn, onCount, onFault, onHeader, stepAt}
 use Rattle.sheet.specs.declared.Header.{Header}
@@ -26,8 +26,8 @@ use Rattle.sheet.specs.declared.Counted.{Counted}
 use Rattle.sheet.specs.declared.Counted.the-variants.{Within, Over}
 use Rattle.sheet.specs.declared.Step.{Step}
 use Rattle.sheet.specs.declared.Step.the-variants.{Done, Past, Into, Stop}
-use Rattle.sheet.proofs.Choosing.{either, clash, opposed}
-use Rattle.sheet.proofs.Tabulated.{Fit, no-row, end-row, no-end, next-fit, new-fit, goes-on, class-of, level-of, answer-of}
+use Rattle.grammar.proofs.Choosing.{either, clash, opposed}
+use Rattle.grammar.proofs.Tabulated.{Fit, no-row, end-row, no-end, next-fit, new-fit, goes-on, class-of, level-of, answer-of}
 use Rattle.sheet.proofs.Valuing.{faultKind, value-is, holds-fields, holds-none}
 use Rattle.sheet.proofs.Counting.{of, AllTallied, all-tallied, same-counts}
 

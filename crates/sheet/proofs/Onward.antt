@@ -8,8 +8,8 @@ use native.Mathlib.Omega.{arith}
 use lib.Dec.{ltb, eqb}
 use lib.ListN.{length, take, drop}
 use Rattle.refusal.specs.declared.Refusal.{Refusal}
-use Rattle.sheet.specs.MeaningReading.{Reading}
-use Rattle.sheet.specs.MirrorTable.{rowCount, cellAt, rowOf}
+use Rattle.grammar.specs.MeaningReading.{Reading}
+use Rattle.grammar.specs.MirrorTable.{rowCount, cellAt, rowOf}
 use Rattle.sheet.specs.MirrorField.{fieldAt}
 use Rattle.sheet.specs.MirrorCheck.{fieldFault, countUp, stopAt, atEnd, goOn, onCount, onFault, onHeader, stepAt, andThen, after, walk, walkAt}
 use Rattle.sheet.specs.declared.Header.{Header}
@@ -21,7 +21,7 @@ use Rattle.sheet.specs.declared.Step.{Step}
 use Rattle.sheet.specs.declared.Step.the-variants.{Done, Past, Into, Stop}
 use Rattle.sheet.specs.declared.Checked.{Checked}
 use Rattle.sheet.specs.declared.Checked.the-variants.{Accepted, Refused}
-use Rattle.sheet.proofs.Choosing.{either}
+use Rattle.grammar.proofs.Choosing.{either}
 use Rattle.sheet.proofs.Deciding.{Inside, inside}
 
 -- ---- a step goes on

@@ -1,12 +1,13 @@
 -- The claims of specs/Claims.antt, and what `verdict` cites.
-use mathlib.Core.Path.{_≡_, refl, ap₂, sym, _∙_}
+use mathlib.Core.Path.{_≡_, refl, ap, ap₂, sym, _∙_}
 use mathlib.Core.Logic.{inl, inr}
 use mathlib.Core.List.{List}
 use Prim.Native.Nat.{ℕ}
 use native.Mathlib.Omega.{arith}
 use Rattle.refusal.specs.declared.Refusal.{Refusal}
 use Rattle.refusal.specs.MeaningAnswer.{Answer, done, refused}
-use Rattle.sheet.specs.MeaningReading.{Reading}
+use Rattle.refusal.proofs.Same.{same-refusal}
+use Rattle.grammar.specs.MeaningReading.{Reading}
 use Rattle.sheet.specs.MeaningSheet.{NotAfter, Is}
 use Rattle.sheet.specs.Told.{told}
 use Rattle.sheet.specs.Promises.{Promise-verdict}
@@ -15,7 +16,7 @@ use Rattle.sheet.specs.MirrorCheck.{sheetCheck}
 use Rattle.sheet.specs.declared.Counts.{Counts}
 use Rattle.sheet.specs.declared.Checked as checked
 use Rattle.sheet.specs.declared.Judgement.the-variants.{Accepted, Refused}
-use Rattle.sheet.proofs.Choosing.{clash}
+use Rattle.grammar.proofs.Choosing.{clash}
 use Rattle.sheet.proofs.FirstFault.{check-refuses, check-accepts}
 
 antisym : (n p m q : ℕ) → NotAfter n p m q → NotAfter m q n p → (n ≡ m) × (p ≡ q)
@@ -50,10 +51,7 @@ unfolding told
 told-injective Accepted Accepted q = refl
 told-injective Accepted (Refused r') q = clash (cc)
 told-injective (Refused r) Accepted q = clash (cc)
-told-injective (Refused r) (Refused r') q = same (r .number) (r .place) (r' .number) (r' .place) (cc) (cc)
-  where
-    same : (n p m q : ℕ) → n ≡ m → p ≡ q → Refused (record { number = n; place = p }) ≡ Refused (record { number = m; place = q })
-    same n p m q a b = rw (a, b) refl
+told-injective (Refused r) (Refused r') q = ap Refused (same-refusal r r' (cc) (cc))
 
 pub verdict-once : VerdictOnce
 unfolding Promise-verdict

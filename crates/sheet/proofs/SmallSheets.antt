@@ -8,22 +8,22 @@ use borrow.Author.Tests.{ltb-true}
 use lib.Dec.{ltb}
 use lib.ListN.{getD}
 use Rattle.refusal.specs.MeaningAnswer.{Answer, done, refused}
-use Rattle.sheet.specs.MeaningReading.Reading.{rust}
+use Rattle.grammar.specs.MeaningReading.Reading.{rust}
 use Rattle.sheet.specs.MeaningName.{isLetter, isNameByte, allNameBytes, startsWithLetter, isName}
-use Rattle.sheet.specs.MeaningGrammar.{grammar, slot, line, expressions, oneOf, needed, slotsOf, slotsIn, Fills, kindOf}
+use Rattle.grammar.specs.MeaningGrammar.{grammar, slot, line, expressions, oneOf, needed, slotsOf, slotsIn, Fills, kindOf}
 use Rattle.sheet.specs.MeaningSheet.{Fault, Is}
 use Rattle.sheet.specs.MeaningSheet.Comes.{start, into}
 use Rattle.sheet.specs.MeaningSheet.Fault.{wrong}
 use Rattle.sheet.specs.MeaningSheet.Wrong.{missing}
 use Rattle.sheet.specs.Claims.{AllBytes}
-use Rattle.sheet.specs.MirrorRows.{rows}
-use Rattle.sheet.specs.MirrorTable.{cellAt, belongs, serves, first, rowOf, answerAt}
+use Rattle.grammar.specs.MirrorRows.{rows}
+use Rattle.grammar.specs.MirrorTable.{cellAt, belongs, serves, first, rowOf, answerAt}
 use Rattle.sheet.specs.MirrorField.{fieldAt}
 use Rattle.sheet.specs.MirrorCheck.{kindFault, lengthFault, valueFault, depthFault, orNext, fieldFault, nextCount, thenTally, countUp, stopAt, atEnd, goOn, onCount, onFault, onHeader, stepAt, andThen, after, walk, walkAt, noCounts, sheetCheck}
 use Rattle.sheet.specs.declared.Checked.{Checked}
 use Rattle.sheet.specs.declared.Checked.the-variants.{Accepted, Refused}
-use Rattle.sheet.proofs.Choosing.{clash}
-use Rattle.sheet.proofs.Sequences.{lacks, fill-end}
+use Rattle.grammar.proofs.Choosing.{clash}
+use Rattle.grammar.proofs.Sequences.{lacks, fill-end}
 use Rattle.sheet.proofs.FirstFault.{check-accepts, check-refuses}
 
 abbrev answerOf : Checked → Answer (Unit {0})

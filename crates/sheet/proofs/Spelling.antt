@@ -1,16 +1,16 @@
 -- Names byte by byte: a law for each way through `is_letter`, `is_name_byte` and the loop of `is_name`.
 use mathlib.Core.Path.{_≡_, refl, sym, _∙_}
 use mathlib.Core.List.{List, [], _∷_}
-use mathlib.Core.Bool.{Bool, true, false, not, _&&_}
+use mathlib.Core.Bool.{Bool, true, false, not, _&&_, and-false, or-false}
 use Prim.Native.Nat.{ℕ, _+_, _<_, _≤_}
 use native.Mathlib.Numerals.{add-one}
 use native.Mathlib.Omega.{arith}
-use borrow.Author.Tests.{le-leb, lt-leb, eq-eqb, ne-eqb, not-true, not-false}
+use borrow.Author.Tests.{le-leb, lt-leb, ne-eqb, not-true, not-false}
 use lib.Dec.{leb}
 use lib.ListN.{length, getD, drop, drop-of-length-le}
 use lib.Seq.{drop-cons}
-use Rattle.sheet.specs.MeaningName.{most-name-bytes, isLetter, isNameByte, allNameBytes, startsWithLetter, isName}
-use Rattle.sheet.proofs.Choosing.{and-false, or-false}
+use Rattle.grammar.specs.MeaningGrammar.{most-name-bytes}
+use Rattle.sheet.specs.MeaningName.{isLetter, isNameByte, allNameBytes, startsWithLetter, isName}
 
 module _ (b : ℕ) where
   pub letter-small : 97 ≤ b → leb b 122 ≡ isLetter b

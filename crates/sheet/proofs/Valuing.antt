@@ -7,14 +7,14 @@ use native.Mathlib.Omega.{arith}
 use borrow.Author.Tests.{eqb-true, eqb-false, eq-eqb, ne-eqb, ltb-true, ltb-false, lt-ltb, le-ltb, lt-leb}
 use lib.Dec.{eqb, ltb, leb}
 use lib.ListN.{length, getD}
-use Rattle.sheet.specs.MeaningName.{most-name-bytes, isName, startsWithLetter}
-use Rattle.sheet.specs.MeaningGrammar.{Kind, kindOf, isSimple, most-bytes}
-use Rattle.sheet.specs.MeaningGrammar.Kind.{name, simple, empty, fields}
-use Rattle.sheet.specs.MirrorRows.{leafKind}
-use Rattle.sheet.specs.MirrorTable.{rowCount, cellAt, rowOf}
+use Rattle.sheet.specs.MeaningName.{isName, startsWithLetter}
+use Rattle.grammar.specs.MeaningGrammar.{Kind, kindOf, isSimple, most-name-bytes, most-bytes}
+use Rattle.grammar.specs.MeaningGrammar.Kind.{name, simple, empty, fields}
+use Rattle.grammar.specs.MirrorRows.{leafKind}
+use Rattle.grammar.specs.MirrorTable.{rowCount, cellAt, rowOf}
 use Rattle.sheet.specs.MirrorCheck.{kindFault, lengthFault, valueFault}
-use Rattle.sheet.proofs.Choosing.{clash}
-use Rattle.sheet.proofs.Tabulated.{leafs}
+use Rattle.grammar.proofs.Choosing.{clash}
+use Rattle.grammar.proofs.Tabulated.{leafs}
 
 abbrev pub faultKind : Kind → List ℕ → ℕ
 faultKind name v = cond (isName v) 0 4

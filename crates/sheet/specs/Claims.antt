@@ -5,7 +5,7 @@ use mathlib.Core.Logic.{_↔_}
 use mathlib.Core.List.{List}
 use lib.ListN.{getD}
 use Rattle.refusal.specs.MeaningAnswer.{Answer, done, refused}
-use Rattle.sheet.specs.MeaningReading.{Reading}
+use Rattle.grammar.specs.MeaningReading.{Reading}
 use Rattle.sheet.specs.MeaningSheet.{Fault, First, Is}
 use Rattle.sheet.specs.Told.{told}
 use Rattle.sheet.specs.Promises.{Promise-verdict}

@@ -1,12 +1,8 @@
 -- Meanings first; then what the answers mean, the promises and the claims; then the mirrors of the code.
-pub mod MeaningReading
 pub mod MeaningName
-pub mod MeaningGrammar
 pub mod MeaningSheet
 pub mod Told
 pub mod Promises
 pub mod Claims
-pub mod MirrorRows
-pub mod MirrorTable
 pub mod MirrorField
 pub mod MirrorCheck

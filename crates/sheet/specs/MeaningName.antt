@@ -4,10 +4,7 @@ use mathlib.Core.List.{List, [], _∷_}
 use mathlib.Core.Bool.{Bool, true, false, _&&_, _||_}
 use lib.ListN.{length}
 use lib.Dec.{leb, eqb}
-
--- "32 bytes"
-abbrev pub most-name-bytes : ℕ
-most-name-bytes = 32
+use Rattle.grammar.specs.MeaningGrammar.{most-name-bytes}
 
 -- A to Z, a to z
 unfoldable pub isLetter : ℕ → Bool

@@ -6,10 +6,10 @@ use mathlib.Core.List.{List, [], _∷_, _++_}
 use mathlib.Core.Bool.{true, false, cond}
 use lib.ListN.{length, getD, take, drop}
 use Rattle.refusal.specs.MeaningAnswer.{Answer, done, refused}
-use Rattle.sheet.specs.MeaningReading.{Reading, answers}
+use Rattle.grammar.specs.MeaningReading.{Reading, answers}
 use Rattle.sheet.specs.MeaningName.{isName}
-use Rattle.sheet.specs.MeaningGrammar.{oneOf, expressions, slotsOf, Fills, kindOf, isSimple, most-bytes, most-depth, Limit, most, counts}
-use Rattle.sheet.specs.MeaningGrammar.Kind.{name, simple, empty, fields}
+use Rattle.grammar.specs.MeaningGrammar.{oneOf, expressions, slotsOf, Fills, kindOf, isSimple, most-bytes, most-depth, Limit, most, counts}
+use Rattle.grammar.specs.MeaningGrammar.Kind.{name, simple, empty, fields}
 
 -- ---- "A field is one tag byte, two length bytes (high byte first), then the value." "A field's place is its tag's offset"
 

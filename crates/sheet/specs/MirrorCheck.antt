@@ -4,11 +4,11 @@ use mathlib.Core.List.{List}
 use mathlib.Core.Bool.{cond}
 use lib.ListN.{length, getD, take, drop}
 use lib.Dec.{ltb, leb, eqb}
-use Rattle.sheet.specs.MeaningReading.{Reading}
+use Rattle.grammar.specs.MeaningReading.{Reading}
 use Rattle.sheet.specs.MeaningName.{isName}
-use Rattle.sheet.specs.MeaningGrammar.{most-bytes, most-depth, most}
-use Rattle.sheet.specs.MeaningGrammar.Limit.{schemas, declarations, constraints, terms}
-use Rattle.sheet.specs.MirrorTable.{rowCount, cellAt, rowOf, answerAt}
+use Rattle.grammar.specs.MeaningGrammar.{most-bytes, most-depth, most}
+use Rattle.grammar.specs.MeaningGrammar.Limit.{schemas, declarations, constraints, terms}
+use Rattle.grammar.specs.MirrorTable.{rowCount, cellAt, rowOf, answerAt}
 use Rattle.sheet.specs.MirrorField.{fieldAt}
 use Rattle.sheet.specs.declared.Header.{Header}
 use Rattle.sheet.specs.declared.Header.the-variants.{Field, Passes}

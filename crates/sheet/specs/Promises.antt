@@ -1,7 +1,7 @@
 -- What the public functions promise.
 use Prim.Native.Nat.{ℕ}
 use mathlib.Core.List.{List}
-use Rattle.sheet.specs.MeaningReading.{Reading}
+use Rattle.grammar.specs.MeaningReading.{Reading}
 use Rattle.sheet.specs.MeaningSheet.{Is}
 use Rattle.sheet.specs.Told.{told}
 use Rattle.sheet.specs.declared.Judgement.{Judgement}

@@ -1,7 +1,7 @@
 -- What the cases of the code's types mean, in the papers' words.
 use Rattle.refusal.specs.MeaningAnswer.{Answer, done}
 use Rattle.refusal.specs.Told.{toldRefusal}
-use Rattle.sheet.specs.MeaningReading as meaning
+use Rattle.grammar.specs.MeaningReading as meaning
 use Rattle.sheet.specs.declared.Reading.{Reading}
 use Rattle.sheet.specs.declared.Reading.the-variants.{Rust}
 use Rattle.sheet.specs.declared.Judgement.{Judgement}

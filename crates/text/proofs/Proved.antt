@@ -1,6 +1,6 @@
 -- The claims of this crate.
 use mathlib.Core.Path.{refl}
-use Rattle.text.specs.MeaningText.{digitsBy, decimal, flag, flags, pathText, orRefused, refusedLine, supertypeLine, typeLine, joined, partLine}
+use Rattle.text.specs.MeaningText.{digitsBy, decimal, pathText, orRefused, refusedLine, supertypeLine, typeLine, joined, partLine}
 use Rattle.text.specs.Claims.{Numbers-shown, Lines-shown}
 
 pub numbers-shown : Numbers-shown

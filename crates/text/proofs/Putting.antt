@@ -1,12 +1,12 @@
 -- Laws of putting text at a place: a byte, one text behind another, and the bytes of a slice one by one.
 use mathlib.Core.Path.{_≡_, refl, sym, _∙_, ap}
 use mathlib.Core.List.{List, [], _∷_, _++_, append-assoc}
-use Prim.Native.Nat.{ℕ, suc, _+_, _≤_, _<_}
+use Prim.Native.Nat.{ℕ, _+_, _≤_, _<_}
 use native.Mathlib.Numerals.{add-one}
 use native.Mathlib.Nat.{add-zero}
 use native.Mathlib.Omega.{arith}
 use lib.ListN.{length, take, drop, set, getD, length-set, length-append, take-append-drop}
-use lib.Seq.{length-take-le, take-all, take-suc, take-at, drop-at, drop-drop, set-split, append-snoc}
+use lib.Seq.{length-take-le, take-all, take-suc, take-at, drop-at, drop-drop, set-split}
 use Rattle.text.specs.MirrorText.{Puts}
 
 pub puts-none : (at : ℕ) (l : List ℕ) → at ≤ length l → Puts [] at at l l

@@ -50,7 +50,7 @@ pathText schema item = schema ++ (dot ++ item)
 
 -- ---- lines
 
--- "a refusal before that prints only `refused`, number, place"
+-- `refused`, number, place
 unfoldable pub refusedLine : (number place : ℕ) → List ℕ
 refusedLine n place = word-refused ++ (blank ++ (decimal n ++ (blank ++ (decimal place ++ line-feed))))
 

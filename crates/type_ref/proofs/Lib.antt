@@ -1,10 +1,4 @@
 -- The laws, each file after those that it cites.
-pub mod Twice
-pub mod Walking
-pub mod Bodies
-pub mod Few
-pub mod Stepping
-pub mod Turning
 pub mod Typing
 pub mod Telling
 pub mod Proved

@@ -8,35 +8,39 @@ use lib.Dec.{leb}
 use lib.ListN.{length}
 use Rattle.refusal.specs.MeaningAnswer.{Answer, done, refused, mapped, orElse, _>>=_}
 use Rattle.refusal.specs.declared.Refusal.{Refusal}
-use Rattle.sheet.specs.MeaningReading.{Reading}
-use Rattle.sheet.specs.MeaningGrammar.{most-bytes}
+use Rattle.refusal.proofs.Same.{same-refusal}
+use Rattle.grammar.specs.MeaningReading.{Reading}
+use Rattle.grammar.specs.MeaningGrammar.{most-bytes}
 use Rattle.sheet.specs.MeaningSheet.{Is}
-use Rattle.sheet.proofs.Choosing.{clash}
+use Rattle.grammar.proofs.Choosing.{clash}
 use Rattle.sheet.proofs.Proved.{one-verdict}
 use Rattle.schemas.specs.MeaningSchemas.{Schema}
 use Rattle.scope.specs.MeaningScope.{Path, samePath}
-use Rattle.scope.specs.MeaningQuery.{pathQuery}
+use Rattle.query.specs.MeaningQuery.{pathQuery}
 use Rattle.scope.specs.Told.{toldPath}
 use Rattle.scope.specs.Held.{pathIn}
 use Rattle.scope.specs.declared.Path as code
-use Rattle.namespace.specs.MeaningOrder.{schemasIn, inOrder, Answers}
+use Rattle.declarations.specs.MeaningNamespace.{schemasIn}
+use Rattle.namespace.specs.MeaningOrder.{inOrder, Answers}
 use Rattle.namespace.proofs.Asking.{path-back}
 use Rattle.merging.specs.MeaningMerging.{Combined, find}
 use Rattle.gathering.specs.MeaningCombined.{supertypes}
-use Rattle.constraints.specs.MeaningQuestions.{enough, left, isSome, isSupertype}
+use Rattle.supertypes.specs.MeaningWorkspace.{enough, left}
+use Rattle.constraints.specs.MeaningQuestions.{isSome, isSupertype}
 use Rattle.constraints.specs.Told.{toldDecision}
 use Rattle.constraints.specs.Promises.{Promise-supertype}
 use Rattle.constraints.specs.declared.Decision.{Decision}
 use Rattle.constraints.specs.declared.Decision.the-variants as decision
+use Rattle.named_types.specs.MeaningWalk.{Walks}
+use Rattle.named_types.proofs.Proved.{walks-on, walks-once}
 use Rattle.type_ref.specs.MeaningTypes as meaning
-use Rattle.type_ref.specs.MeaningTypes.{Walks, byKind, fromPath}
+use Rattle.type_ref.specs.MeaningTypes.{byKind, fromPath}
 use Rattle.type_ref.specs.Told.{toldTypeRef}
 use Rattle.type_ref.specs.Promises.{Written, Promise-type}
 use Rattle.type_ref.specs.Claims.{TypeOnce}
 use Rattle.type_ref.specs.MirrorCode.{GivenPath, TypedAs}
 use Rattle.type_ref.specs.declared.TypeRef.{TypeRef}
 use Rattle.type_ref.specs.declared.TypeRef.the-variants.{Named, Entity, Refused}
-use Rattle.type_ref.proofs.Walking.{answers, once}
 
 -- ---- gathering stands before both questions
 
@@ -90,7 +94,7 @@ was-answered rd s long o own b a = answered-by rd s (leb (length s) most-bytes) 
 
 -- what the walk answers from the path asked for, if one is
 walk-of : (rd : Reading) (xs : List Schema) (o : Answer Path) → (w : Answer Bool) × ((p : Path) → o ≡ done p → Walks rd xs p w)
-walk-of rd xs (done p) = let w = answers rd xs p in (w .0, λ r e. (let z : p ≡ r = cc in subst (λ (y : Path). Walks rd xs y (w .0)) z (w .1)))
+walk-of rd xs (done p) = let w = walks-on rd xs p in (w .0, λ r e. (let z : p ≡ r = cc in subst (λ (y : Path). Walks rd xs y (w .0)) z (w .1)))
 walk-of rd xs (refused n place) = (refused 0 0, λ r e. clash (cc))
 
 as-asked : (q : List ℕ) (p : Path) → pathQuery q ≡ done p → (y : code.Path) → y ≡ pathIn p → y ≡ pathIn (toldPath q y)
@@ -167,9 +171,6 @@ module _ (q : List ℕ) where
       → Entity (record { path = x; «is_supertype» = a }) ≡ Entity (record { path = y; «is_supertype» = b })
   one-entity x y a b e f g h = let z : x ≡ y = e ∙ ap pathIn g ∙ sym f in rw (z, h) refl
 
-  one-refusal : (n p m r : ℕ) → n ≡ m → p ≡ r → Refused (record { number = n; place = p }) ≡ Refused (record { number = m; place = r })
-  one-refusal n p m r a b = rw (a, b) refl
-
   named-apart : (x y : meaning.NamedType) → _≡_ {A = Answer meaning.TypeRef} (done (meaning.TypeRef.a-named x)) (done (meaning.TypeRef.a-named y)) → x ≡ y
   named-apart x y e = cc
 
@@ -190,10 +191,10 @@ module _ (q : List ℕ) where
   told-once (Entity x) (Refused y) u v e = clash (cc)
   told-once (Refused x) (Named y) u v e = clash (cc)
   told-once (Refused x) (Entity y) u v e = clash (cc)
-  told-once (Refused x) (Refused y) u v e = one-refusal (x .number) (x .place) (y .number) (y .place) (cc) (cc)
+  told-once (Refused x) (Refused y) u v e = ap Refused (same-refusal x y (cc) (cc))
 
 one-walk : (rd : Reading) (xs : List Schema) (o : Answer Path) (a b : Answer Bool) → ((p : Path) → o ≡ done p → Walks rd xs p a) → ((p : Path) → o ≡ done p → Walks rd xs p b) → (o >>= fromPath rd xs a) ≡ (o >>= fromPath rd xs b)
-one-walk rd xs (done p) a b f g = ap (λ (w : Answer Bool). fromPath rd xs w p) (once rd xs p a b (f p refl) (g p refl))
+one-walk rd xs (done p) a b f g = ap (λ (w : Answer Bool). fromPath rd xs w p) (walks-once rd xs p a b (f p refl) (g p refl))
 one-walk rd xs (refused n place) a b f g = refl
 
 pub one-outcome : TypeOnce

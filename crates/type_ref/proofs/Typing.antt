@@ -2,71 +2,42 @@
 use mathlib.Core.Path.{_≡_, refl, sym, ap, _∙_, subst}
 use mathlib.Core.List.{List}
 use mathlib.Core.Bool.{Bool}
-use mathlib.Core.Option.{Option, none, some}
 use Prim.Native.Nat.{ℕ, _-_}
 use native.Mathlib.Omega.{arith}
 use lib.ListN.{length, getElem?}
 use Rattle.refusal.specs.MeaningAnswer.{Answer, done, refused, mapped}
 use Rattle.refusal.specs.declared.Refusal.{Refusal}
-use Rattle.sheet.specs.MeaningReading.{Reading}
-use Rattle.sheet.proofs.Choosing.{clash}
+use Rattle.grammar.specs.MeaningReading.{Reading}
 use Rattle.schemas.specs.MeaningSchemas.{Schema}
 use Rattle.scope.specs.MeaningScope as meaning
 use Rattle.scope.specs.MeaningScope.{ScopeType, placeOf}
 use Rattle.scope.specs.MeaningScope.ScopeType.{entity, alias, function, procedure, query, repeat, rule, schema, subType, type}
-use Rattle.scope.specs.MeaningQuery.{pathQuery}
+use Rattle.query.specs.MeaningQuery.{pathQuery}
 use Rattle.scope.specs.Told.{toldKind, toldStep, toldPath}
 use Rattle.scope.specs.Held.{pathIn}
-use Rattle.scope.specs.MirrorQuery.{askedPathOf}
+use Rattle.query.specs.MirrorQuery.{askedPathOf}
 use Rattle.scope.specs.declared.Path.{Path}
-use Rattle.scope.specs.declared.AskedPath.{AskedPath}
+use Rattle.query.specs.declared.AskedPath.{AskedPath}
 use Rattle.lookup.specs.declared.Sought.{Sought}
 use Rattle.lookup.specs.declared.Sought.the-variants.{At, Past}
-use Rattle.namespace.specs.MeaningNamespace.{Declaration, declarations, declarationFor}
-use Rattle.namespace.specs.MeaningOrder.{schemasIn}
-use Rattle.namespace.specs.MirrorNamespace.{soughtOf}
-use Rattle.namespace.proofs.Numbering.{at-number}
-use Rattle.namespace.proofs.Proved.{get-lowest}
+use Rattle.declarations.specs.MeaningNamespace.{schemasIn, declarations, declarationFor}
+use Rattle.declarations.specs.MirrorNamespace.{soughtOf}
 use Rattle.namespace.proofs.Asking.{path-back, path-scope, path-item}
 use Rattle.constraints.specs.MeaningQuestions.{isSupertype}
-use Rattle.type_ref.specs.MeaningTypes.{an-entity-type, Walks, isEnumeration, byKind}
+use Rattle.named_types.specs.MeaningWalk.{Walks, isEnumeration}
+use Rattle.named_types.specs.MirrorTypes.{walkedBy}
+use Rattle.named_types.specs.MirrorCode.{toldWalked}
+use Rattle.named_types.specs.declared.Walked.{Walked}
+use Rattle.named_types.specs.declared.Walked.the-variants as walked
+use Rattle.named_types.proofs.Finding.{walks-nowhere, walks-there, enumerates-there}
+use Rattle.named_types.proofs.Proved.{walks-on}
+use Rattle.type_ref.specs.MeaningTypes.{an-entity-type, byKind}
 use Rattle.type_ref.specs.Told.{toldTypeRef}
-use Rattle.type_ref.specs.MirrorTypes.{walkedBy}
-use Rattle.type_ref.specs.MirrorCode.{toldWalked, GivenPath, NamedAs, TypedAs}
-use Rattle.type_ref.specs.declared.Walked.{Walked}
-use Rattle.type_ref.specs.declared.Walked.the-variants as walked
+use Rattle.type_ref.specs.MirrorCode.{GivenPath, NamedAs, TypedAs}
 use Rattle.type_ref.specs.declared.TypeRef.{TypeRef}
 use Rattle.type_ref.specs.declared.TypeRef.the-variants.{Named, Entity, Refused}
-use Rattle.type_ref.proofs.Walking.{walks-by-number, not-declared, answers}
 
 -- ---- a type
-
-found : (o : Option Declaration) (n : ℕ) → At n ≡ soughtOf o → (d : Declaration) × (o ≡ some d) × (d .number ≡ n)
-unfolding soughtOf
-found none n e = clash (cc)
-found (some d) n e = (d, refl, (let z : d .number ≡ n = cc in z))
-
-lost : (o : Option Declaration) (n : ℕ) → Past n ≡ soughtOf o → o ≡ none
-unfolding soughtOf
-lost none n e = refl
-lost (some d) n e = clash (cc)
-
--- what the number says that is found for a path
-module _ (rd : Reading) (xs : List Schema) (p : meaning.Path) (v : Sought) (vv : v ≡ soughtOf (declarationFor rd xs p)) where
-  pub walks-nowhere : (n : ℕ) → v ≡ Past n → Walks rd xs p (refused 7 0)
-  walks-nowhere n e = not-declared rd xs p (lost (declarationFor rd xs p) n (sym e ∙ vv))
-
-  module _ (n : ℕ) (e : v ≡ At n) where
-    leads : (d : Declaration) × (declarationFor rd xs p ≡ some d) × (d .number ≡ n)
-    leads = found (declarationFor rd xs p) n (sym e ∙ vv)
-
-    pub walks-there : (k : Walked) → toldWalked k ≡ walkedBy rd xs (length (declarations xs) - 1) n → Walks rd xs p (toldWalked k)
-    walks-there k kk = let d = leads in subst (Walks rd xs p) (ap (λ (m : ℕ). walkedBy rd xs (length (declarations xs) - 1) m) (d .2) ∙ sym kk) (walks-by-number rd xs p (d .0) (d .1))
-
-    pub enumerates-there : (flag : Bool) → ((r : Reading) → flag ≡ isEnumeration r xs (getElem? (declarations xs) n)) → flag ≡ isEnumeration rd xs (declarationFor rd xs p)
-    enumerates-there flag f =
-        let d = leads in
-        f rd ∙ ap (isEnumeration rd xs) (ap (getElem? (declarations xs)) (sym (d .2)) ∙ at-number xs (d .0) (get-lowest rd xs p (d .0) (d .1) .0) .1 ∙ sym (d .1))
 
 module _ (rd : Reading) (s q : List ℕ) (x : Path) (v : Sought) (vv : v ≡ soughtOf (declarationFor rd (schemasIn s) (toldPath q x))) where
   abbrev xs : List Schema
@@ -157,7 +128,7 @@ module _ (q : List ℕ) (a : AskedPath) (h : a ≡ askedPathOf (pathQuery q)) wh
   module _ (rd : Reading) (s : List ℕ) (k : ℕ) (kk : k ≡ placeOf (toldKind (a .path .item .kind))) where
     pub typed-entity : k ≡ 0 → (b : Bool) (p : meaning.Path) → pathQuery q ≡ done p → TypedAs rd (schemasIn s) q b p (Entity (record { path = a .path; «is_supertype» = b }))
     unfolding toldTypeRef byKind
-    typed-entity z b p e = let w = answers rd (schemasIn s) p in record { walked = w .0; walks = w .1; is = tells (w .0); given = path-is p e }
+    typed-entity z b p e = let w = walks-on rd (schemasIn s) p in record { walked = w .0; walks = w .1; is = tells (w .0); given = path-is p e }
       where
         tells : (w : Answer Bool) → isSupertype rd (schemasIn s) p ≡ done b → toldTypeRef q (Entity (record { path = a .path; «is_supertype» = b })) ≡ byKind rd (schemasIn s) p w (p .item .kind)
         tells w f =
@@ -176,7 +147,7 @@ module _ (q : List ℕ) (a : AskedPath) (h : a ≡ askedPathOf (pathQuery q)) wh
     pub typed-neither : (k ≡ 0 → ⊥) → (k ≡ 9 → ⊥) → (why : Refusal) → why ≡ record { number = 14; place = 0 } → (b : Bool) (p : meaning.Path) → pathQuery q ≡ done p → TypedAs rd (schemasIn s) q b p (Refused why)
     unfolding toldTypeRef
     typed-neither y z why i b p e =
-        let w = answers rd (schemasIn s) p in
+        let w = walks-on rd (schemasIn s) p in
         let j = kk ∙ kind-is p e in
         record { walked = w .0; walks = w .1; is = λ f. rw i (sym (is-neither rd (schemasIn s) p (w .0) (p .item .kind) (λ g. y (j ∙ g)) (λ g. z (j ∙ g)))); given = tt }
 

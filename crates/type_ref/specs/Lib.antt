@@ -1,7 +1,6 @@
--- Meanings, then promises and claims, then mirrors.
+-- The meaning, then promises and claims, then the mirror.
 pub mod MeaningTypes
 pub mod Told
 pub mod Promises
 pub mod Claims
-pub mod MirrorTypes
 pub mod MirrorCode

@@ -1,19 +1,15 @@
--- `from_path`: what a path is, an entity or a type, and the walk through named types.
-use Prim.Native.Nat.{ℕ, suc, _<_}
-use mathlib.Core.Path.{_≡_}
+-- `from_path`: what a path is, an entity or a type.
 use mathlib.Core.List.{List}
-use mathlib.Core.Bool.{Bool, true, false}
-use mathlib.Core.Option.{Option, none, some}
-use Rattle.refusal.specs.MeaningAnswer.{Answer, done, refused, mapped, _>>=_}
-use Rattle.sheet.specs.MeaningReading.{Reading}
-use Rattle.schemas.specs.MeaningSchemas.{Body, Schema}
-use Rattle.schemas.specs.MeaningSchemas.Body.{simple, enumeration, named, other}
-use Rattle.scope.specs.MeaningScope.{ScopeType, Scope, Path, samePath}
+use mathlib.Core.Bool.{Bool}
+use Rattle.refusal.specs.MeaningAnswer.{Answer, refused, mapped, _>>=_}
+use Rattle.grammar.specs.MeaningReading.{Reading}
+use Rattle.schemas.specs.MeaningSchemas.{Schema}
+use Rattle.scope.specs.MeaningScope.{ScopeType, Path}
 use Rattle.scope.specs.MeaningScope.ScopeType.{entity, alias, function, procedure, query, repeat, rule, schema, subType, type}
-use Rattle.namespace.specs.MeaningNamespace.{Declaration, Named, answered, declarationFor}
-use Rattle.namespace.specs.MeaningNamespace.Named.{a-type, an-entity}
-use Rattle.gathering.specs.MeaningCombined.{supertypes, pathFor}
+use Rattle.declarations.specs.MeaningNamespace.{declarationFor}
+use Rattle.gathering.specs.MeaningCombined.{supertypes}
 use Rattle.constraints.specs.MeaningQuestions.{isSupertype}
+use Rattle.named_types.specs.MeaningWalk.{isEnumeration}
 
 -- "the Named answer carries a record of path and both flags"
 pub record NamedType : Type 0 where
@@ -29,63 +25,13 @@ pub data TypeRef : Type 0 where
   a-named : NamedType → TypeRef
   an-entity-type : EntityType → TypeRef
 
--- ---- the walk
-
--- one step: it ends, simple or not; or it goes on to another path
-pub data Step : Type 0 where
-  ends : (simply : Bool) → Step
-  goes : Path → Step
+-- ---- the answer, where w is what the walk answers
 
 module _ (rd : Reading) (xs : List Schema) where
-  -- "the walk through named types ends simple at fields 21 and 22, not simple at 24"
-  unfoldable pub bodyStep : Scope → Body → Answer Step
-  bodyStep sc (simple k) = done (ends true)
-  bodyStep sc enumeration = done (ends true)
-  bodyStep sc (named x) = mapped goes (pathFor rd xs sc x)
-  bodyStep sc other = done (ends false)
-
-  -- ".. or an entity"
-  unfoldable pub namedStep : Scope → Named → Answer Step
-  namedStep sc (a-type t) = bodyStep sc (t .body)
-  namedStep sc (an-entity e) = done (ends false)
-
-  -- what stands at a path: "7, 6 or 13 as the walk meets them"
-  unfoldable pub stepFrom : Path → Answer Step
-  stepFrom p = answered 7 0 (declarationFor rd xs p) >>= λ d. namedStep (p .scope) (d .named)
-
-  -- after n steps from p the walk is at q
-  pub data Reaches (p : Path) : ℕ → Path → Type 0 where
-    start : Reaches p 0 p
-    onward : {n : ℕ} {q r : Path} → Reaches p n q → stepFrom q ≡ done (goes r) → Reaches p (suc n) r
-
-  -- what the walk from p answers: whether it ends simple, or its refusal
-  pub data Walks (p : Path) : Answer Bool → Type 0 where
-    ended : {n : ℕ} {q : Path} {b : Bool} → Reaches p n q → stepFrom q ≡ done (ends b) → Walks p (done b)
-    failed : {n k place : ℕ} {q : Path} → Reaches p n q → stepFrom q ≡ refused k place → Walks p (refused k place)
-    -- "13: the alias walk meets a path again"
-    again : {n m : ℕ} {q r : Path} → Reaches p n q → Reaches p m r → n < m → samePath rd q r ≡ true → Walks p (refused 13 0)
-
-  -- ---- the answer, where w is what the walk answers
-
-  -- "The enumeration flag looks at the first type only."
-  unfoldable pub isEnumeration : Option Declaration → Bool
-  isEnumeration none = false
-  isEnumeration (some d) = enumerates (d .named)
-    where
-      ofBody : Body → Bool
-      ofBody (simple k) = false
-      ofBody enumeration = true
-      ofBody (named x) = false
-      ofBody other = false
-
-      enumerates : Named → Bool
-      enumerates (a-type t) = ofBody (t .body)
-      enumerates (an-entity e) = false
-
   unfoldable pub byKind : Path → Answer Bool → ScopeType → Answer TypeRef
   -- "an Entity path is answered, with its `is_supertype`, even if undeclared"
   byKind p w entity = mapped (λ b. an-entity-type (record { path = p; is-supertype = b })) (isSupertype rd xs p)
-  byKind p w type = mapped (λ b. a-named (record { path = p; is-simple = b; is-enumerate = isEnumeration (declarationFor rd xs p) })) w
+  byKind p w type = mapped (λ b. a-named (record { path = p; is-simple = b; is-enumerate = isEnumeration rd xs (declarationFor rd xs p) })) w
   -- "14: `from_path` of a kind other than Entity, Type"
   byKind p w alias = refused 14 0
   byKind p w function = refused 14 0

@@ -4,14 +4,16 @@ use mathlib.Core.Path.{_≡_}
 use mathlib.Core.List.{List}
 use mathlib.Core.Bool.{Bool}
 use Rattle.refusal.specs.MeaningAnswer.{Answer, done}
-use Rattle.sheet.specs.MeaningReading.{Reading}
+use Rattle.grammar.specs.MeaningReading.{Reading}
 use Rattle.scope.specs.MeaningScope.{Path}
-use Rattle.scope.specs.MeaningQuery.{pathQuery}
+use Rattle.query.specs.MeaningQuery.{pathQuery}
 use Rattle.scope.specs.Told.{toldPath}
 use Rattle.scope.specs.Held.{pathIn}
-use Rattle.namespace.specs.MeaningOrder.{schemasIn, Answers}
-use Rattle.constraints.specs.MeaningQuestions.{enough, left}
-use Rattle.type_ref.specs.MeaningTypes.{Walks, fromPath}
+use Rattle.declarations.specs.MeaningNamespace.{schemasIn}
+use Rattle.namespace.specs.MeaningOrder.{Answers}
+use Rattle.supertypes.specs.MeaningWorkspace.{enough, left}
+use Rattle.named_types.specs.MeaningWalk.{Walks}
+use Rattle.type_ref.specs.MeaningTypes.{fromPath}
 use Rattle.type_ref.specs.Told.{toldTypeRef}
 use Rattle.type_ref.specs.declared.TypeRef.{TypeRef}
 use Rattle.type_ref.specs.declared.TypeRef.the-variants.{Named, Entity, Refused}

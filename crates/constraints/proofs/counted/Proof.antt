@@ -1,5 +1,6 @@
 -- `counted`: gathered, then counted.
-use Rattle.constraints.proofs.Questions.{gathered-stood, counted-refused, counted-done}
+use Rattle.supertypes.proofs.Asking.{gathered-stood}
+use Rattle.constraints.proofs.Questions.{counted-refused, counted-done}
 use borrow.Author.Needs.{needs}
 use Rattle.constraints.proofs.counted.Statement.{statement}
 use Rattle.constraints.proofs.counted.Tie as tie

@@ -1,6 +1,7 @@
 -- `decided`: gathered, then decided.
 use Rattle.namespace.proofs.Asking.{path-scope, path-item}
-use Rattle.constraints.proofs.Questions.{gathered-stood, gathered-short, decided-refused, decided-done}
+use Rattle.supertypes.proofs.Asking.{gathered-stood, gathered-short}
+use Rattle.constraints.proofs.Questions.{decided-refused, decided-done}
 use borrow.Author.Needs.{needs}
 use Rattle.constraints.proofs.decided.Statement.{statement}
 use Rattle.constraints.proofs.decided.Tie as tie
@@ -17,8 +18,11 @@ enum-known-why c = search needs
 enum-known-streams : tie.Need-enum-known-streams
 enum-known-streams c = search needs
 
-decide-requires : tie.Need-decide-requires
-decide-requires c κs = search (gathered-stood, gathered-short, path-scope, path-item, needs)
+owns-requires : tie.Need-owns-requires
+owns-requires c κs = search (gathered-stood, gathered-short, path-scope, path-item, needs)
+
+yes-or-no-requires : tie.Need-yes-or-no-requires
+yes-or-no-requires c κs = search needs
 
 same-length : tie.Need-same-length
 same-length c = search needs
@@ -40,7 +44,8 @@ decided-spec =
     gathered-requires
     enum-known-why
     enum-known-streams
-    decide-requires
+    owns-requires
+    yes-or-no-requires
     same-length
     returns
     same-length-2

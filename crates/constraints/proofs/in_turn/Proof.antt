@@ -1,5 +1,5 @@
 -- `in_turn`: the query first.
-use Rattle.constraints.proofs.Standing.{turning}
+use Rattle.constraints.proofs.Questions.{turning}
 use borrow.Author.Needs.{needs}
 use Rattle.constraints.proofs.in_turn.Statement.{statement}
 use Rattle.constraints.proofs.in_turn.Tie as tie

@@ -1,6 +1,7 @@
 -- `list_asked`: gathered, then valued.
 use Rattle.namespace.proofs.Asking.{path-scope, path-item}
-use Rattle.constraints.proofs.Questions.{gathered-stood, gathered-short, asks-refused, asks-done}
+use Rattle.supertypes.proofs.Asking.{gathered-stood, gathered-short}
+use Rattle.constraints.proofs.Questions.{asks-refused, asks-done}
 use borrow.Author.Needs.{needs}
 use Rattle.constraints.proofs.list_asked.Statement.{statement}
 use Rattle.constraints.proofs.list_asked.Tie as tie

@@ -2,18 +2,19 @@
 use borrow.Author.Needs.{needs}
 use Prim.Native.Nat.{_-_}
 use Rattle.sheet.specs.Told.{toldReading}
-use Rattle.namespace.specs.MeaningOrder.{schemasIn}
-use Rattle.gathering.specs.MirrorWalk.{schemaNamed, tagFor, itemKept, itemSize, itemLevel}
-use Rattle.gathering.proofs.Seeking.{meeting}
+use Rattle.declarations.specs.MeaningNamespace.{schemasIn}
+use Rattle.records.specs.MirrorRecords.{schemaNamed}
+use Rattle.gathering.specs.MirrorWalk.{tagFor, itemKept, itemSize, itemLevel}
+use Rattle.records.proofs.Seeking.{meeting}
 use Rattle.gathering.proofs.Walking.{Fields, items-start, items-room, walking}
 use Rattle.gathering.proofs.items.Statement.{statement}
 use Rattle.gathering.proofs.items.Tie as tie
 
 abbrev Inv-loop : tie.InvT-loop
-Inv-loop reading sheet scope home pass at end stream₀ used tag n₀ from₀ stream n from = Fields (λ i. itemKept (toldReading reading) (schemasIn sheet) pass (schemaNamed scope) (i .0) (i .1)) (λ i. itemSize pass (i .1)) (λ i. itemLevel pass (i .1)) (tagFor pass) tag sheet at end used stream₀ from n stream
+Inv-loop reading sheet scope last pass at end stream₀ used tag n₀ from₀ stream n from = Fields (λ i. itemKept (toldReading reading) (schemasIn sheet) pass (schemaNamed scope) (i .0) (i .1)) (λ i. itemSize pass (i .1)) (λ i. itemLevel pass (i .1)) (tagFor pass) tag sheet at end used stream₀ from n stream
 
 abbrev μ-loop : tie.MeasureT-loop
-μ-loop reading sheet scope home pass at end stream₀ used tag n₀ from₀ stream n from = end - from
+μ-loop reading sheet scope last pass at end stream₀ used tag n₀ from₀ stream n from = end - from
 
 tag-of-requires : tie.Need-tag-of-requires Inv-loop μ-loop
 tag-of-requires c κs = search (walking, meeting, needs)
@@ -36,11 +37,8 @@ same-length c = search (walking, meeting, needs)
 returns : tie.Need-returns Inv-loop μ-loop
 returns c = search (walking, meeting, needs)
 
-sub-place : tie.Need-sub-place Inv-loop μ-loop
-sub-place c = search (walking, meeting, needs)
-
 item-requires : tie.Need-item-requires Inv-loop μ-loop
-item-requires c κs = (search (walking, needs), (search (items-room _ _ _ _ _ _ _ _ _ _ _ _ _ (c .before .before .before .before .before .loop .inv), needs), search needs))
+item-requires c κs = ((search (walking, needs), search (walking, needs)), (search (items-room _ _ _ _ _ _ _ _ _ _ _ _ _ (c .before .before .before .before .before .loop .inv), needs), search needs))
 
 enum-known-answer : tie.Need-enum-known-answer Inv-loop μ-loop
 enum-known-answer c = search (walking, meeting, needs)
@@ -73,7 +71,6 @@ items-spec =
     enum-told
     same-length
     returns
-    sub-place
     item-requires
     enum-known-answer
     enum-told-2

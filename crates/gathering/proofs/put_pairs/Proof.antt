@@ -2,17 +2,17 @@
 use borrow.Author.Needs.{needs}
 use Prim.Native.Nat.{_-_}
 use Rattle.sheet.specs.Told.{toldReading}
-use Rattle.namespace.specs.MeaningOrder.{schemasIn}
-use Rattle.gathering.proofs.Seeking.{meeting}
+use Rattle.declarations.specs.MeaningNamespace.{schemasIn}
+use Rattle.records.proofs.Seeking.{meeting}
 use Rattle.gathering.proofs.Pairs.{Pairing, pairs}
 use Rattle.gathering.proofs.put_pairs.Statement.{statement}
 use Rattle.gathering.proofs.put_pairs.Tie as tie
 
 abbrev Inv-loop : tie.InvT-loop
-Inv-loop reading sheet scope home own at end stream₀ used n₀ from₀ stream n from = Pairing (toldReading reading) (schemasIn sheet) scope sheet own at end used stream₀ from n stream
+Inv-loop reading sheet scope last own at end stream₀ used n₀ from₀ stream n from = Pairing (toldReading reading) (schemasIn sheet) scope sheet own at end used stream₀ from n stream
 
 abbrev μ-loop : tie.MeasureT-loop
-μ-loop reading sheet scope home own at end stream₀ used n₀ from₀ stream n from = end - from
+μ-loop reading sheet scope last own at end stream₀ used n₀ from₀ stream n from = end - from
 
 loop-holds : tie.Need-loop-holds Inv-loop μ-loop
 loop-holds c = search (pairs, meeting, needs)

@@ -34,6 +34,9 @@ same-length c = search (ruling, needs)
 returns-2 : tie.Need-returns-2
 returns-2 c = search (ruling, needs)
 
+sub-place : tie.Need-sub-place
+sub-place c = search (ruling, needs)
+
 slice-reshare-prefix-is-owner : tie.Need-slice-reshare-prefix-is-owner
 slice-reshare-prefix-is-owner c = search (ruling, needs)
 
@@ -72,6 +75,7 @@ rule-of-spec =
     enum-told-2
     same-length
     returns-2
+    sub-place
     slice-reshare-prefix-is-owner
     slice-aggregate-is-owner
     is-owner-requires

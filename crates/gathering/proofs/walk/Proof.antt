@@ -3,9 +3,9 @@ use borrow.Author.Needs.{needs}
 use Prim.Native.Nat.{_-_}
 use Rattle.sheet.specs.Told.{toldReading}
 use Rattle.schemas.specs.MeaningSchemas.{nameOf}
-use Rattle.namespace.specs.MeaningOrder.{schemasIn}
+use Rattle.declarations.specs.MeaningNamespace.{schemasIn}
 use Rattle.gathering.specs.MirrorWalk.{itemsKept, itemsSize, itemsLevel}
-use Rattle.gathering.proofs.Seeking.{meeting}
+use Rattle.records.proofs.Seeking.{meeting}
 use Rattle.gathering.proofs.Walking.{Fields, all-start, all-room, whole-kept, walking}
 use Rattle.gathering.proofs.walk.Statement.{statement}
 use Rattle.gathering.proofs.walk.Tie as tie

@@ -1,5 +1,5 @@
 -- `next_supertype`: the next owner, its list, its line.
-use Rattle.constraints.proofs.Standing.{stood-used, stood-inside}
+use Rattle.supertypes.proofs.Standing.{stood-used, stood-inside}
 use Rattle.lister.proofs.Passing.{pass-small, pass-in, passing}
 use borrow.Author.Needs.{needs}
 use Rattle.lister.proofs.next_supertype.Statement.{statement}

@@ -1,5 +1,5 @@
 -- `start`: gathered, then the names noted.
-use Rattle.constraints.proofs.Questions.{gathered-short}
+use Rattle.supertypes.proofs.Asking.{gathered-short}
 use Rattle.lister.proofs.Starting.{start-refused, start-done}
 use native.Mathlib.Omega.{arith}
 use Rattle.sheet.specs.Claims.{AllBytes}

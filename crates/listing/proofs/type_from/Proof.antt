@@ -1,9 +1,8 @@
--- `type_from` meets its contract. The invariant: the declarations that are passed have no lines.
+-- `type_from` meets its contract. The invariant: the first type from there on is the one that is sought.
 use Prim.Native.Nat.{_+_, _-_, _≤_}
 use native.Mathlib.Omega.{arith}
 use lib.ListN.{length}
-use Rattle.namespace.specs.MeaningNamespace.{declarations}
-use Rattle.namespace.specs.MeaningOrder.{schemasIn}
+use Rattle.declarations.specs.MeaningNamespace.{schemasIn, declarations}
 use Rattle.listing.proofs.Typing.{Seeking, seeking, seek-small}
 use borrow.Author.Needs.{needs}
 use Rattle.listing.proofs.type_from.Statement.{statement}

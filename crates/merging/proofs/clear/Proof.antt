@@ -1,7 +1,7 @@
 -- `clear` meets its contract. The invariant: the first i numbers are 0, and the rest is what it was.
 use Prim.Native.Nat.{_-_}
 use lib.ListN.{length}
-use Rattle.merging.proofs.Combining.{Clearing, clearing}
+use Rattle.merging.proofs.Clearing.{Clearing, clearing}
 use borrow.Author.Needs.{needs}
 use Rattle.merging.proofs.clear.Statement.{statement}
 use Rattle.merging.proofs.clear.Tie as tie

@@ -1,38 +1,29 @@
 -- `schema_name_in`: the name that the schema begins with.
 use borrow.Author.Needs.{needs}
-use Rattle.namespace.proofs.Standing.{telling}
+use Rattle.namespace.proofs.Naming.{telling}
 use Rattle.namespace.proofs.schema_name_in.Statement.{statement}
 use Rattle.namespace.proofs.schema_name_in.Tie as tie
 
-cleared-requires : tie.Need-cleared-requires
-cleared-requires c κs = search (telling, needs)
+name-place-requires : tie.Need-name-place-requires
+name-place-requires c κs = search needs
+
+enum-known-name : tie.Need-enum-known-name
+enum-known-name c = search needs
 
 enum-told : tie.Need-enum-told
-enum-told c = search (telling, needs)
+enum-told c = search needs
 
 sub-result : tie.Need-sub-result
-sub-result c = search (telling, needs)
+sub-result c = search needs
 
 part-result-start : tie.Need-part-result-start
-part-result-start c = search (telling, needs)
+part-result-start c = search needs
 
 part-result-end : tie.Need-part-result-end
-part-result-end c = search (telling, needs)
+part-result-end c = search needs
 
 returns : tie.Need-returns
 returns c = search (telling, needs)
-
-enum-told-2 : tie.Need-enum-told-2
-enum-told-2 c = search (telling, needs)
-
-declaration-requires : tie.Need-declaration-requires
-declaration-requires c κs = search (telling, needs)
-
-enum-known-schema-start : tie.Need-enum-known-schema-start
-enum-known-schema-start c = search (telling, needs)
-
-enum-told-3 : tie.Need-enum-told-3
-enum-told-3 c = search (telling, needs)
 
 sub-result-2 : tie.Need-sub-result-2
 sub-result-2 c = search (telling, needs)
@@ -46,41 +37,18 @@ part-result-end-2 c = search (telling, needs)
 returns-2 : tie.Need-returns-2
 returns-2 c = search (telling, needs)
 
-name-of-requires : tie.Need-name-of-requires
-name-of-requires c κs = search (telling, needs)
-
-sub-result-3 : tie.Need-sub-result-3
-sub-result-3 c = search (telling, needs)
-
-part-result-start-3 : tie.Need-part-result-start-3
-part-result-start-3 c = search (telling, needs)
-
-part-result-end-3 : tie.Need-part-result-end-3
-part-result-end-3 c = search (telling, needs)
-
-returns-3 : tie.Need-returns-3
-returns-3 c = search (telling, needs)
-
 pub schema-name-in-spec : {M : Type 1} → statement M
 schema-name-in-spec =
     tie.close
     (tie.spec
-    cleared-requires
+    name-place-requires
+    enum-known-name
     enum-told
     sub-result
     part-result-start
     part-result-end
     returns
-    enum-told-2
-    declaration-requires
-    enum-known-schema-start
-    enum-told-3
     sub-result-2
     part-result-start-2
     part-result-end-2
-    returns-2
-    name-of-requires
-    sub-result-3
-    part-result-start-3
-    part-result-end-3
-    returns-3)
+    returns-2)

@@ -1,6 +1,6 @@
 -- The bytes that were read are within their array.
 use borrow.Author.Needs.{needs}
-use Rattle.replay.proofs.Parts.{parts}
+use Rattle.lines.proofs.Parts.{parts}
 use Rattle.replay.proofs.answer_listing.Statement.{statement}
 use Rattle.replay.proofs.answer_listing.Tie as tie
 

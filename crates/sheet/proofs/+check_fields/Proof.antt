@@ -9,7 +9,7 @@ use Rattle.sheet.proofs.Onward.{Walking, walking}
 use Rattle.sheet.proofs.check_fields.Reads as check-fields
 use Rattle.sheet.proofs.check_fields.Kinds as check-fields-kinds
 use Rattle.sheet.proofs.+check_fields.Lts-check_fields as check-fields-lts
-use Rattle.sheet.proofs.first_row.Reads as first-row-reads
+use Rattle.grammar.proofs.first_row.Reads as first-row-reads
 use Rattle.sheet.proofs.step_at.Reads as step-at-reads
 use Rattle.sheet.proofs.+check_fields.{statement}
 use Rattle.sheet.proofs.+check_fields.Tie.{close}

@@ -1,6 +1,7 @@
 -- `add` meets its contract. The invariant: the rows that are left, added to the list, make the whole answer.
 use borrow.Author.Needs.{needs}
-use Rattle.instantiables.specs.MirrorRows.{partsAt}
+use Rattle.complex_entity.proofs.Rows.{padded-part}
+use Rattle.rows.specs.MirrorRows.{partsAt}
 use Rattle.complex_entity.specs.MeaningLists.{add, held}
 use Rattle.instantiables.proofs.Feeds.{Feeding, feeding}
 use Rattle.instantiables.proofs.Instantiables.add.Statement.{statement}
@@ -19,7 +20,7 @@ read-requires : tie.Need-read-requires Inv-loop μ-loop
 read-requires c κs = search (feeding, needs)
 
 add-part-requires : tie.Need-add-part-requires Inv-loop μ-loop
-add-part-requires c κs = search (feeding, needs)
+add-part-requires c κs = search (feeding, padded-part, needs)
 
 enum-known-r : tie.Need-enum-known-r Inv-loop μ-loop
 enum-known-r c = search (feeding, needs)

@@ -1,5 +1,5 @@
 -- `add_joins` meets its contract. The invariant: the joins of the rows that are left, added to the list, make the whole answer.
-use Rattle.instantiables.specs.MirrorRows.{partsAt}
+use Rattle.rows.specs.MirrorRows.{partsAt}
 use Rattle.complex_entity.specs.MeaningLists.{add, joins, held}
 use borrow.Author.Needs.{needs}
 use Rattle.instantiables.proofs.Feeds.{Crossing, crossing}

@@ -1,10 +1,11 @@
 -- `add_joins_with` meets its contract. The invariant: the joins of the rows that are left, added to the list, make the whole answer.
-use Rattle.instantiables.specs.MirrorRows.{partsAt}
+use Rattle.rows.specs.MirrorRows.{partsAt}
 use Rattle.complex_entity.specs.MirrorParts.{partAt}
 use Rattle.complex_entity.specs.MeaningLists.{add, joins, held}
 use lib.ListN.{drop}
 use mathlib.Core.List.{[], _∷_}
 use borrow.Author.Needs.{needs}
+use Rattle.complex_entity.proofs.Rows.{padded-made}
 use Rattle.instantiables.proofs.Feeds.{Joining, joining}
 use Rattle.instantiables.proofs.Instantiables.add_joins_with.Statement.{statement}
 use Rattle.instantiables.proofs.Instantiables.add_joins_with.Tie as tie
@@ -34,7 +35,7 @@ enum-told : tie.Need-enum-told Inv-loop μ-loop
 enum-told c = search (joining, needs)
 
 add-part-requires : tie.Need-add-part-requires Inv-loop μ-loop
-add-part-requires c κs = search (joining, needs)
+add-part-requires c κs = search (joining, padded-made, needs)
 
 enum-known-r : tie.Need-enum-known-r Inv-loop μ-loop
 enum-known-r c = search (joining, needs)

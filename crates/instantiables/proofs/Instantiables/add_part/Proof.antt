@@ -43,8 +43,8 @@ sub-raise c = search (inserting, needs)
 raise-requires : tie.Need-raise-requires
 raise-requires c κs = search (inserting, needs)
 
-write-requires : tie.Need-write-requires
-write-requires c κs = search (inserting, needs)
+put-requires : tie.Need-put-requires
+put-requires c κs = search (inserting, needs)
 
 add-t15 : tie.Need-add-t15
 add-t15 c = search needs
@@ -72,7 +72,7 @@ add-part-spec =
     mul-raise
     sub-raise
     raise-requires
-    write-requires
+    put-requires
     add-t15
     same-length-3
     returns-3)

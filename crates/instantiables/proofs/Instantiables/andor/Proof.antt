@@ -11,10 +11,10 @@ use Rattle.instantiables.proofs.Instantiables.andor.Statement.{statemen
 use Rattle.instantiables.proofs.Instantiables.andor.Tie as tie
 
 abbrev Inv-loop : tie.InvT-loop
-Inv-loop rows₀ counts lists old₀ list₀ at₀ i₀ rows old list at i = Choosing counts lists rows₀ old₀ rows old (list .count) at i (andorOf (listsAt counts lists))
+Inv-loop rows₀ counts lists scratch₀ list₀ at₀ i₀ rows scratch list at i = Choosing counts lists rows₀ scratch₀ rows scratch (list .count) at i (andorOf (listsAt counts lists))
 
 abbrev μ-loop : tie.MeasureT-loop
-μ-loop rows₀ counts lists old₀ list₀ at₀ i₀ rows old list at i = length counts - i
+μ-loop rows₀ counts lists scratch₀ list₀ at₀ i₀ rows scratch list at i = length counts - i
 
 refused-requires : tie.Need-refused-requires Inv-loop μ-loop
 refused-requires c κs = search (choosing, needs)

@@ -1,6 +1,7 @@
 -- `div` meets its contract. The invariant: what is kept stands in front, and with what is kept of the rows that are left it is the whole answer.
 use borrow.Author.Needs.{needs}
-use Rattle.instantiables.specs.MirrorRows.{partsAt}
+use Rattle.complex_entity.proofs.Rows.{padded-part}
+use Rattle.rows.specs.MirrorRows.{partsAt}
 use Rattle.complex_entity.specs.MeaningLists.{div}
 use Rattle.instantiables.proofs.Keeping.{Keeping, keeping, covering, div-start, div-keep, div-drop}
 use Rattle.instantiables.proofs.Instantiables.div.Statement.{statement}
@@ -21,8 +22,8 @@ read-requires c κs = search (keeping, needs)
 some-in-requires : tie.Need-some-in-requires Inv-loop μ-loop
 some-in-requires c κs = search (keeping, needs)
 
-write-requires : tie.Need-write-requires Inv-loop μ-loop
-write-requires c κs = search (keeping, needs)
+put-requires : tie.Need-put-requires Inv-loop μ-loop
+put-requires c κs = search (keeping, padded-part, needs)
 
 add-kept : tie.Need-add-kept Inv-loop μ-loop
 add-kept c = search (keeping, needs)
@@ -40,7 +41,7 @@ loop-less : tie.Need-loop-less Inv-loop μ-loop
 loop-less c = search (keeping, needs)
 
 loop-again : tie.Need-loop-again Inv-loop μ-loop
-loop-again c = div-keep _ _ _ _ _ _ _ _ (c .before .before .before .before .before .before .before .before .loop-test .taken) _ (c .before .before .before .before .before .before .read .ensures) _ (c .before .before .before .before .before .some-in .ensures) (c .before .before .before .before .before .before .before .before .before .loop .inv) _ (c .before .before .before .before .if1 .taken) (c .before .before .write .ensures)
+loop-again c = div-keep _ _ _ _ _ _ _ _ (c .before .before .before .before .before .before .before .before .loop-test .taken) _ (c .before .before .before .before .before .before .read .ensures) _ (c .before .before .before .before .before .some-in .ensures) (c .before .before .before .before .before .before .before .before .before .loop .inv) _ (c .before .before .before .before .if1 .taken) (c .before .before .put .ensures)
 
 add-at-2 : tie.Need-add-at-2 Inv-loop μ-loop
 add-at-2 c = search (keeping, needs)
@@ -69,7 +70,7 @@ div-spec =
     loop-holds
     read-requires
     some-in-requires
-    write-requires
+    put-requires
     add-kept
     add-to
     add-at

@@ -2,7 +2,7 @@
 use borrow.Author.Needs.{needs}
 use Rattle.complex_entity.specs.MeaningLists.{any, equal}
 use Rattle.complex_entity.specs.MirrorParts.{namesOf}
-use Rattle.instantiables.specs.MirrorRows.{partsAt}
+use Rattle.rows.specs.MirrorRows.{partsAt}
 use Rattle.instantiables.proofs.Seeking.{Seeking, seeking}
 use Rattle.instantiables.proofs.Instantiables.has.Statement.{statement}
 use Rattle.instantiables.proofs.Instantiables.has.Tie as tie

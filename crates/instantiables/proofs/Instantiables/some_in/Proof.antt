@@ -3,7 +3,7 @@ use borrow.Author.Needs.{needs}
 use Rattle.complex_entity.specs.MeaningParts.{contains}
 use Rattle.complex_entity.specs.MeaningLists.{any}
 use Rattle.complex_entity.specs.MirrorParts.{namesOf}
-use Rattle.instantiables.specs.MirrorRows.{partsAt}
+use Rattle.rows.specs.MirrorRows.{partsAt}
 use Rattle.instantiables.proofs.Seeking.{Seeking, seeking}
 use Rattle.instantiables.proofs.Instantiables.some_in.Statement.{statement}
 use Rattle.instantiables.proofs.Instantiables.some_in.Tie as tie

@@ -1,6 +1,7 @@
 -- `sub` meets its contract. The invariant: what is kept stands in front, and with what is kept of the rows that are left it is the whole answer.
 use borrow.Author.Needs.{needs}
-use Rattle.instantiables.specs.MirrorRows.{partsAt}
+use Rattle.complex_entity.proofs.Rows.{padded-part}
+use Rattle.rows.specs.MirrorRows.{partsAt}
 use Rattle.complex_entity.specs.MeaningLists.{sub}
 use Rattle.instantiables.proofs.Keeping.{Keeping, keeping, left-out, sub-start, sub-drop, sub-keep}
 use Rattle.instantiables.proofs.Instantiables.sub.Statement.{statement}
@@ -33,8 +34,8 @@ loop-less c = search (keeping, needs)
 loop-again : tie.Need-loop-again Inv-loop μ-loop
 loop-again c = search (sub-drop)
 
-write-requires : tie.Need-write-requires Inv-loop μ-loop
-write-requires c κs = search (keeping, needs)
+put-requires : tie.Need-put-requires Inv-loop μ-loop
+put-requires c κs = search (keeping, padded-part, needs)
 
 add-kept : tie.Need-add-kept Inv-loop μ-loop
 add-kept c = search (keeping, needs)
@@ -52,7 +53,7 @@ loop-less-2 : tie.Need-loop-less-2 Inv-loop μ-loop
 loop-less-2 c = search (keeping, needs)
 
 loop-again-2 : tie.Need-loop-again-2 Inv-loop μ-loop
-loop-again-2 c = sub-keep _ _ _ _ _ _ _ _ (c .before .before .before .before .before .before .before .before .loop-test .taken) _ (c .before .before .before .before .before .before .read .ensures) _ (c .before .before .before .before .before .has .ensures) (c .before .before .before .before .before .before .before .before .before .loop .inv) _ (c .before .before .before .before .if1 .left) (c .before .before .write .ensures)
+loop-again-2 c = sub-keep _ _ _ _ _ _ _ _ (c .before .before .before .before .before .before .before .before .loop-test .taken) _ (c .before .before .before .before .before .before .read .ensures) _ (c .before .before .before .before .before .has .ensures) (c .before .before .before .before .before .before .before .before .before .loop .inv) _ (c .before .before .before .before .if1 .left) (c .before .before .put .ensures)
 
 same-length : tie.Need-same-length Inv-loop μ-loop
 same-length c = search (keeping, needs)
@@ -73,7 +74,7 @@ sub-spec =
     sub-left
     loop-less
     loop-again
-    write-requires
+    put-requires
     add-kept
     add-to
     add-at-2

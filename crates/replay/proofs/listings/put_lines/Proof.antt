@@ -1,6 +1,6 @@
 -- `put_lines`: lines are left where the cursor stands; whether one was made so far is known.
 use mathlib.Core.Path.{_≡_}
-use Prim.Native.Nat.{_≤_, _<_}
+use Prim.Native.Nat.{_<_}
 use native.Mathlib.Omega.{arith}
 use lib.ListN.{length}
 use Rattle.sheet.specs.Told.{toldReading}

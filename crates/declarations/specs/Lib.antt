@@ -1,0 +1,7 @@
+-- Meanings, then claims, then mirrors.
+pub mod MeaningNamespace
+pub mod MeaningExamples
+pub mod Told
+pub mod Claims
+pub mod MirrorNamespace
+pub mod MirrorDeclared

@@ -1,0 +1,9 @@
+pub mod Shapes
+pub mod Cuts
+pub mod Counting
+pub mod Judging
+pub mod RowParts
+pub mod Taking
+pub mod Handing
+pub mod Once
+pub mod Proved

@@ -1,0 +1,2 @@
+pub mod MeaningOperators
+pub mod Told

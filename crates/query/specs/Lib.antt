@@ -1,0 +1,4 @@
+pub mod MeaningQuery
+pub mod Promises
+pub mod MirrorQuery
+pub mod Claims

@@ -1,0 +1,3 @@
+-- The meaning, then the mirror.
+pub mod MeaningResolving
+pub mod MirrorRecords

@@ -1,0 +1,3 @@
+pub mod MirrorRows
+pub mod MirrorLists
+pub mod MirrorUnions

@@ -1,0 +1,3 @@
+-- The meaning, then the mirror.
+pub mod MeaningWorkspace
+pub mod MirrorStanding
