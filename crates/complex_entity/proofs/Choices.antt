@@ -2,7 +2,7 @@
 use mathlib.Core.Path.{_≡_, refl, sym, _∙_, ap}
 use mathlib.Core.Logic.{inl, inr}
 use mathlib.Core.List.{List, [], _∷_, _++_, map, flatten}
-use Rattle.complex_entity.specs.MeaningSets.{_∈_, here, there, Rising, empty}
+use Rattle.complex_entity.specs.MeaningRising.{_∈_, here, there, Rising, empty}
 use Rattle.complex_entity.specs.MeaningParts.{Part, order, join}
 use Rattle.complex_entity.specs.MeaningLists.{joins, bitand, oneof, andFrom, and, choices, andor}
 use Rattle.complex_entity.specs.MirrorLists.{grown, andorFrom}

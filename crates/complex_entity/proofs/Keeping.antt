@@ -6,7 +6,7 @@ use mathlib.Core.Bool.{Bool, true, false, not, _||_}
 use Prim.Native.Nat.{ℕ, Ordering}
 use lib.Dec.{T, isEq, eqb, eqb→eq, eqb-refl, T-not, not-T}
 use mir.Facts.{and-yes, yes-and}
-use Rattle.complex_entity.specs.MeaningSets.{_∈_, here, there, View, less, same, more}
+use Rattle.complex_entity.specs.MeaningRising.{_∈_, here, there, View, less, same, more}
 use Rattle.complex_entity.specs.MeaningParts.{Part, order, hasName, contains}
 use Rattle.complex_entity.specs.MeaningLists.{keepIf, keep, any, equal, sub, div}
 use Rattle.complex_entity.proofs.Orders.{part-order}

@@ -8,7 +8,7 @@ use lib.ListN.{length}
 use lib.Dec.{T, leb, leb→le, le→leb}
 use mir.Facts.{and-yes, yes-and}
 use Rattle.refusal.specs.MeaningAnswer.{Answer, done, refused, orElse}
-use Rattle.complex_entity.specs.MeaningSets.{_∈_, here, there, Rising}
+use Rattle.complex_entity.specs.MeaningRising.{_∈_, here, there, Rising}
 use Rattle.complex_entity.specs.MeaningParts.{Part, order, narrow}
 use Rattle.complex_entity.specs.MeaningLists.{add, held, fits, allNarrow}
 use Rattle.complex_entity.proofs.Sets.{subset-length}

@@ -11,7 +11,7 @@ use lib.ListN.{length}
 use lib.Dec.{T, leb, eqb, leb→le, le→leb, eqb→eq, eqb-refl}
 use mir.Facts.{and-yes, yes-and}
 use Rattle.refusal.specs.MeaningAnswer.{done, orElse}
-use Rattle.complex_entity.specs.MeaningSets.{_∈_, here, there, Rising, empty, next}
+use Rattle.complex_entity.specs.MeaningRising.{_∈_, here, there, Rising, empty, next}
 use Rattle.complex_entity.specs.MeaningParts.{Part, narrow, after, dedup, moved, badAfter, unlessBad, newOf, last-index}
 use Rattle.complex_entity.proofs.Orders.{nat-order, cmp→lt, lt→cmp}
 use Rattle.complex_entity.proofs.Limits.{orElse-yes}

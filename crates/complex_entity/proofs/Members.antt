@@ -3,10 +3,11 @@ use mathlib.Core.Path.{_≡_, refl, _∙_, ap}
 use mathlib.Core.Logic.{_⊎_, inl, inr}
 use mathlib.Core.List.{List, [], _∷_, _++_, append-nil, map, flatMap, flatten}
 use Prim.Native.Nat.{ℕ, compare}
-use Rattle.complex_entity.specs.MeaningSets.{_∈_, here, there, Rising, insert, tidy}
+use Rattle.complex_entity.specs.MeaningSets.{sortIn, tidy}
+use Rattle.complex_entity.specs.MeaningRising.{_∈_, here, there, Rising}
 use Rattle.complex_entity.specs.MeaningParts.{Part, order, join}
 use Rattle.complex_entity.specs.MeaningLists.{add, joins}
-use Rattle.complex_entity.proofs.Sets.{not-in-nil, insert-old, insert-new, insert-rising, tidy-old, tidy-new, tidy-rising, tidy-same, tidy-is, ext}
+use Rattle.complex_entity.proofs.Sets.{not-in-nil, sort-in-old, sort-in-new, sort-in-rising, tidy-old, tidy-new, tidy-rising, tidy-same, tidy-is, ext}
 use Rattle.complex_entity.proofs.Orders.{nat-order, part-order}
 
 -- ---- members of lists put together
@@ -60,10 +61,10 @@ add-rising L K = tidy-rising part-order (L ++ K)
 pub add-nil : {L : List Part} → Rising order L → add L [] ≡ L
 add-nil {L} R = ap (tidy order) (append-nil L) ∙ tidy-is part-order R
 
-pub add-one-part : {L : List Part} (p : Part) → Rising order L → add L (p ∷ []) ≡ insert order p L
-add-one-part {L} p R = ext part-order (add-rising L (p ∷ [])) (insert-rising part-order p L R)
-    (λ q m. elim (add-old L (p ∷ []) m) [ inl i ↦ insert-new part-order p L (inr i) | inr j ↦ elim j [ here e ↦ insert-new part-order p L (inl e) | there n ↦ absurd (not-in-nil n) ] ])
-    (λ q m. elim (insert-old part-order p L m) [ inl e ↦ add-right L (p ∷ []) (here e) | inr i ↦ add-left L (p ∷ []) i ])
+pub add-one-part : {L : List Part} (p : Part) → Rising order L → add L (p ∷ []) ≡ sortIn order p L
+add-one-part {L} p R = ext part-order (add-rising L (p ∷ [])) (sort-in-rising part-order p L R)
+    (λ q m. elim (add-old L (p ∷ []) m) [ inl i ↦ sort-in-new part-order p L (inr i) | inr j ↦ elim j [ here e ↦ sort-in-new part-order p L (inl e) | there n ↦ absurd (not-in-nil n) ] ])
+    (λ q m. elim (sort-in-old part-order p L m) [ inl e ↦ add-right L (p ∷ []) (here e) | inr i ↦ add-left L (p ∷ []) i ])
 
 pub add-steps : (L J K : List Part) → add (add L J) K ≡ add L (J ++ K)
 add-steps L J K = tidy-same part-order (add L J ++ K) (L ++ (J ++ K)) to fro

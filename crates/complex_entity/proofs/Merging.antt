@@ -3,7 +3,7 @@ use mathlib.Core.Path.{_≡_, sym, _∙_}
 use mathlib.Core.Logic.{_⊎_, inl, inr}
 use mathlib.Core.List.{[], _∷_}
 use Prim.Native.Nat.{ℕ, compare, Ordering}
-use Rattle.complex_entity.specs.MeaningSets.{_∈_, here, there, View, less, same, more, Below, Rising, next}
+use Rattle.complex_entity.specs.MeaningRising.{_∈_, here, there, View, less, same, more, Below, Rising, next}
 use Rattle.complex_entity.specs.MeaningParts.{Part, join}
 use Rattle.complex_entity.specs.MirrorParts.{by, merge}
 use Rattle.complex_entity.proofs.Sets.{below-cons, ext}

@@ -6,7 +6,7 @@ use Prim.Native.Nat.{ℕ, zero, suc, _<_, suc-le-suc, Ordering, Ordering·lt, Or
 use native.Mathlib.Omega.{arith}
 use native.Mathlib.Nat.{not-suc-le-zero, le-of-suc-le-suc}
 use lib.ListN.{length}
-use Rattle.complex_entity.specs.MeaningSets.{Lt, View, less, same, more, Order}
+use Rattle.complex_entity.specs.MeaningRising.{Lt, View, less, same, more, Order}
 use Rattle.complex_entity.specs.MeaningParts.{Part, then, lex, order}
 
 -- ---- the order of numbers

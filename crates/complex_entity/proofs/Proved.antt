@@ -8,7 +8,7 @@ use native.Mathlib.Omega.{arith}
 use lib.ListN.{length}
 use lib.Dec.{leb}
 use Rattle.refusal.specs.MeaningAnswer.{Answer, done, orElse, _>>=_}
-use Rattle.complex_entity.specs.MeaningSets.{_∈_}
+use Rattle.complex_entity.specs.MeaningRising.{_∈_}
 use Rattle.complex_entity.specs.MeaningParts.{Part, join}
 use Rattle.complex_entity.specs.MeaningLists.{bitand, joins, held, prefixes, andFrom, and, andOf, andor, andorOf, choices}
 use Rattle.complex_entity.specs.Claims

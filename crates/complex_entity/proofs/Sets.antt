@@ -5,7 +5,8 @@ use mathlib.Core.List.{List, [], _∷_}
 use Prim.Native.Nat.{_≤_, zero-le, suc-le-suc, Ordering}
 use native.Mathlib.Omega.{arith}
 use lib.ListN.{length}
-use Rattle.complex_entity.specs.MeaningSets.{_∈_, here, there, Lt, View, less, same, more, Order, Below, Rising, empty, next, put, insert, tidy}
+use Rattle.complex_entity.specs.MeaningSets.{put, sortIn, tidy}
+use Rattle.complex_entity.specs.MeaningRising.{_∈_, here, there, Lt, View, less, same, more, Order, Below, Rising, empty, next}
 
 -- nothing is in the empty list
 pub not-in-nil : {A : Type 0} {a : A} → a ∈ [] → ⊥
@@ -16,7 +17,7 @@ pub ∈-cast : {A : Type 0} {a b : A} {l : List A} → a ≡ b → b ∈ l → a
 ∈-cast e (here f) = here (e ∙ f)
 ∈-cast e (there m) = there (∈-cast e m)
 
--- ---- what one step of `insert` does, by the answer of its comparison
+-- ---- what one step of `sortIn` does, by the answer of its comparison
 module _ {A : Type 0} (cmp : A → A → Ordering) (a b : A) (l r : List A) where
   put-old : {o : Ordering} {q : A} → View cmp a b o → (q ∈ r → (q ≡ a) ⊎ (q ∈ l)) → q ∈ put cmp o a b l r → (q ≡ a) ⊎ (q ∈ (b ∷ l))
   put-old (less h) f (here e) = inl e
@@ -36,15 +37,15 @@ module _ {A : Type 0} (cmp : A → A → Ordering) (a b : A) (l r : List A) wher
 
 -- ---- the laws, of any order
 module _ {A : Type 0} {cmp : A → A → Ordering} (O : Order cmp) where
-  pub insert-old : (a : A) (l : List A) {q : A} → q ∈ insert cmp a l → (q ≡ a) ⊎ (q ∈ l)
-  insert-old a [] (here e) = inl e
-  insert-old a [] (there m) = inr m
-  insert-old a (b ∷ l) m = put-old cmp a b l (insert cmp a l) (O .view a b) (insert-old a l) m
+  pub sort-in-old : (a : A) (l : List A) {q : A} → q ∈ sortIn cmp a l → (q ≡ a) ⊎ (q ∈ l)
+  sort-in-old a [] (here e) = inl e
+  sort-in-old a [] (there m) = inr m
+  sort-in-old a (b ∷ l) m = put-old cmp a b l (sortIn cmp a l) (O .view a b) (sort-in-old a l) m
 
-  pub insert-new : (a : A) (l : List A) {q : A} → (q ≡ a) ⊎ (q ∈ l) → q ∈ insert cmp a l
-  insert-new a [] (inl e) = here e
-  insert-new a [] (inr m) = there m
-  insert-new a (b ∷ l) m = put-new cmp a b l (insert cmp a l) (O .view a b) (insert-new a l) m
+  pub sort-in-new : (a : A) (l : List A) {q : A} → (q ≡ a) ⊎ (q ∈ l) → q ∈ sortIn cmp a l
+  sort-in-new a [] (inl e) = here e
+  sort-in-new a [] (inr m) = there m
+  sort-in-new a (b ∷ l) m = put-new cmp a b l (sortIn cmp a l) (O .view a b) (sort-in-new a l) m
 
   pub below-cons : {a b : A} {l : List A} → Lt cmp a b → Below cmp b l → Below cmp a (b ∷ l)
   below-cons h B q (here e) = rw e h
@@ -58,21 +59,21 @@ module _ {A : Type 0} {cmp : A → A → Ordering} (O : Order cmp) where
   rising-tail : {a : A} {l : List A} → Rising cmp (a ∷ l) → Rising cmp l
   rising-tail (next B R) = R
 
-  pub insert-rising : (a : A) (l : List A) → Rising cmp l → Rising cmp (insert cmp a l)
-  insert-rising a [] R = next (λ q m. absurd (not-in-nil m)) R
-  insert-rising a (b ∷ l) R = put-rising a b l (insert cmp a l) (O .view a b) R (insert-rising a l (rising-tail R)) (λ q m. insert-old a l m)
+  pub sort-in-rising : (a : A) (l : List A) → Rising cmp l → Rising cmp (sortIn cmp a l)
+  sort-in-rising a [] R = next (λ q m. absurd (not-in-nil m)) R
+  sort-in-rising a (b ∷ l) R = put-rising a b l (sortIn cmp a l) (O .view a b) R (sort-in-rising a l (rising-tail R)) (λ q m. sort-in-old a l m)
 
   -- ---- tidy: the same members, strictly rising
   pub tidy-old : (l : List A) {q : A} → q ∈ tidy cmp l → q ∈ l
-  tidy-old (a ∷ l) m = elim (insert-old a (tidy cmp l) m) [ inl e ↦ here e | inr n ↦ there (tidy-old l n) ]
+  tidy-old (a ∷ l) m = elim (sort-in-old a (tidy cmp l) m) [ inl e ↦ here e | inr n ↦ there (tidy-old l n) ]
 
   pub tidy-new : (l : List A) {q : A} → q ∈ l → q ∈ tidy cmp l
-  tidy-new (a ∷ l) (here e) = insert-new a (tidy cmp l) (inl e)
-  tidy-new (a ∷ l) (there m) = insert-new a (tidy cmp l) (inr (tidy-new l m))
+  tidy-new (a ∷ l) (here e) = sort-in-new a (tidy cmp l) (inl e)
+  tidy-new (a ∷ l) (there m) = sort-in-new a (tidy cmp l) (inr (tidy-new l m))
 
   pub tidy-rising : (l : List A) → Rising cmp (tidy cmp l)
   tidy-rising [] = empty
-  tidy-rising (a ∷ l) = insert-rising a (tidy cmp l) (tidy-rising l)
+  tidy-rising (a ∷ l) = sort-in-rising a (tidy cmp l) (tidy-rising l)
 
   -- ---- two rising lists with the same elements are one
   least : {a b : A} {k l : List A} → Below cmp a k → Below cmp b l → a ∈ (b ∷ l) → b ∈ (a ∷ k) → a ≡ b

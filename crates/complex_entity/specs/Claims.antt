@@ -6,7 +6,8 @@ use Prim.Native.Nat.{ℕ, _≤_, compare, Ordering}
 use lib.ListN.{length}
 use lib.Dec.{T}
 use Rattle.refusal.specs.MeaningAnswer.{done}
-use Rattle.complex_entity.specs.MeaningSets.{_∈_, Order, Rising, tidy}
+use Rattle.complex_entity.specs.MeaningSets.{tidy}
+use Rattle.complex_entity.specs.MeaningRising.{_∈_, Order, Rising}
 use Rattle.complex_entity.specs.MeaningParts.{Part, order, join, newOf, contains, last-index}
 use Rattle.complex_entity.specs.MeaningLists.{add, bitand, sub, div, equal, oneof, and, andor, held, andOf, andorOf}
 use Rattle.complex_entity.specs.MirrorParts.{merge}

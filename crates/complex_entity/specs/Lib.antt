@@ -1,4 +1,5 @@
 pub mod MeaningSets
+pub mod MeaningRising
 pub mod MeaningParts
 pub mod MeaningLists
 pub mod MeaningRows

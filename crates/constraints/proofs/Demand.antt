@@ -9,7 +9,7 @@ use Rattle.grammar.specs.MeaningReading.{Reading}
 use Rattle.grammar.proofs.Choosing.{clash}
 use Rattle.schemas.specs.MeaningSchemas.{Schema}
 use Rattle.scope.specs.MeaningScope.{Path, samePath}
-use Rattle.complex_entity.specs.MeaningSets.{_∈_, here, there}
+use Rattle.complex_entity.specs.MeaningRising.{_∈_, here, there}
 use Rattle.complex_entity.specs.MeaningParts.{Part}
 use Rattle.expression.specs.MeaningExpression.{Expr, eval}
 use Rattle.expression.specs.MeaningNumbers.{numberOf, setAt}

@@ -9,7 +9,7 @@ use Rattle.refusal.specs.MeaningAnswer.{done, refused}
 use Rattle.grammar.specs.MeaningReading.{Reading}
 use Rattle.scope.specs.MeaningScope.{Path, samePath}
 use Rattle.query.specs.MeaningQuery.{pathQuery}
-use Rattle.complex_entity.specs.MeaningSets.{_∈_, Rising}
+use Rattle.complex_entity.specs.MeaningRising.{_∈_, Rising}
 use Rattle.complex_entity.specs.MeaningParts.{Part, order}
 use Rattle.instantiables.specs.declared.Listed.{Listed}
 use Rattle.expression.specs.MeaningExpression.{Expr}

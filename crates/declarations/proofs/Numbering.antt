@@ -8,8 +8,8 @@ use native.Mathlib.Nat.{le-refl}
 use native.Mathlib.Omega.{arith}
 use lib.ListN.{length, getElem?, length-append, length-map}
 use Rattle.complex_entity.proofs.Members.{∈-append-left, ∈-append-right}
-use Rattle.complex_entity.specs.MeaningSets.{_∈_}
-use Rattle.complex_entity.specs.MeaningSets._∈_.{here, there}
+use Rattle.complex_entity.specs.MeaningRising.{_∈_}
+use Rattle.complex_entity.specs.MeaningRising._∈_.{here, there}
 use Rattle.grammar.proofs.Choosing.{clash}
 use Rattle.schemas.specs.MeaningSchemas.{Schema}
 use Rattle.declarations.specs.MeaningNamespace.{Named, a-type, an-entity, Declaration, scopeIn, pathIn, declaredBy, numbered, Entry, entriesFrom, allOf, declarations, first}

@@ -5,8 +5,8 @@ use mathlib.Core.Option.{Option, none, some}
 use mathlib.Core.Bool.{true}
 use Prim.Native.Nat.{ℕ}
 use native.Mathlib.Omega.{arith}
-use Rattle.complex_entity.specs.MeaningSets.{_∈_}
-use Rattle.complex_entity.specs.MeaningSets._∈_.{here, there}
+use Rattle.complex_entity.specs.MeaningRising.{_∈_}
+use Rattle.complex_entity.specs.MeaningRising._∈_.{here, there}
 use Rattle.refusal.proofs.Same.{same-refusal}
 use Rattle.grammar.specs.MeaningReading.{Reading}
 use Rattle.grammar.proofs.Choosing.{clash}

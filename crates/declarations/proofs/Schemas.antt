@@ -9,8 +9,8 @@ use native.Mathlib.Numerals.{add-one}
 use borrow.Author.Tests.{ne-eqb, eqb-true, eqb-false}
 use lib.Dec.{eqb}
 use lib.ListN.{length, length-map}
-use Rattle.complex_entity.specs.MeaningSets.{_∈_}
-use Rattle.complex_entity.specs.MeaningSets._∈_.{here, there}
+use Rattle.complex_entity.specs.MeaningRising.{_∈_}
+use Rattle.complex_entity.specs.MeaningRising._∈_.{here, there}
 use Rattle.grammar.specs.MeaningReading.{Reading}
 use Rattle.sheet.specs.MeaningName.{Name}
 use Rattle.schemas.specs.MeaningTree.{Tree, treeAt}

@@ -6,7 +6,7 @@ use mathlib.Core.List.{List, [], _∷_, _++_, map}
 use mathlib.Core.Option.{some}
 use mathlib.Core.Bool.{true}
 use lib.ListN.{length, getElem?}
-use Rattle.complex_entity.specs.MeaningSets.{_∈_}
+use Rattle.complex_entity.specs.MeaningRising.{_∈_}
 use Rattle.refusal.specs.MeaningAnswer.{Answer, done, refused}
 use Rattle.grammar.specs.MeaningReading.{Reading}
 use Rattle.grammar.specs.MeaningReading.Reading.{rust}

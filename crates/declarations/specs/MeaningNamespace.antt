@@ -7,7 +7,8 @@ use lib.ListN.{length, getElem?}
 use Rattle.refusal.specs.MeaningAnswer.{Answer, done, refused, mapped}
 use Rattle.grammar.specs.MeaningReading.{Reading}
 use Rattle.schemas.specs.MeaningTree.{treeOf}
-use Rattle.schemas.specs.MeaningSchemas.{TypeDecl, Entity, Schema, schemasOf}
+use Rattle.schemas.specs.MeaningSchemas.{TypeDecl, Entity, Schema, noName, schemasOf}
+use Rattle.sheet.specs.MeaningName.{Name}
 use Rattle.scope.specs.MeaningNames.{sameName}
 use Rattle.scope.specs.MeaningScope.{Step, Scope, Path, sameScope, samePath}
 use Rattle.scope.specs.MeaningScope.ScopeType.{entity, schema, type}
@@ -125,12 +126,12 @@ resolveOf rd xs q = mapped (λ d. d .number) (answered 6 (q .word .at) (resolved
 unfoldable pub pathAt : List Schema → ℕ → Answer Path
 pathAt xs i = mapped (λ d. d .path) (answered 15 0 (getElem? (declarations xs) i))
 
-unfoldable pub outermost : Scope → List ℕ
-outermost [] = []
-outermost (x ∷ xs) = x .name .bytes
+unfoldable pub outermost : Scope → Name
+outermost [] = noName
+outermost (x ∷ xs) = x .name
 
-unfoldable pub schemaName : Path → List ℕ
+unfoldable pub schemaName : Path → Name
 schemaName p = outermost (p .scope)
 
-unfoldable pub itemName : Path → List ℕ
-itemName p = p .item .name .bytes
+unfoldable pub itemName : Path → Name
+itemName p = p .item .name

@@ -260,21 +260,21 @@ module _ {N : Type 0} (same : N → N → Bool) (means : Scope → Name → Answ
   mutual
     unfolding resolvedExpr resolvedTerms
 
-    expr-marked : (sc : Scope) (e : Expr Name) → Marked (resolvedExpr same means itself sc e)
+    expr-marked : (sc : Scope) (e : Expr Name) → Marked (resolvedExpr means sc e)
     expr-marked sc (reference x) = map-marked reference (means sc x) (m sc x)
-    expr-marked sc (Expr.andor t) = map-marked Expr.andor (resolvedTerms same means itself sc t) (terms-marked sc t)
-    expr-marked sc (Expr.«and» t) = map-marked Expr.«and» (resolvedTerms same means itself sc t) (terms-marked sc t)
-    expr-marked sc (Expr.oneof t) = map-marked Expr.oneof (resolvedTerms same means itself sc t) (terms-marked sc t)
+    expr-marked sc (Expr.andor t) = map-marked Expr.andor (resolvedTerms means sc t) (terms-marked sc t)
+    expr-marked sc (Expr.«and» t) = map-marked Expr.«and» (resolvedTerms means sc t) (terms-marked sc t)
+    expr-marked sc (Expr.oneof t) = map-marked Expr.oneof (resolvedTerms means sc t) (terms-marked sc t)
 
-    terms-marked : (sc : Scope) (t : Terms Name) → Marked (resolvedTerms same means itself sc t)
+    terms-marked : (sc : Scope) (t : Terms Name) → Marked (resolvedTerms means sc t)
     terms-marked sc end = fine end
-    terms-marked sc (e then t) = bind (resolvedExpr same means itself sc e) (λ d. mapped (λ u. d then u) (resolvedTerms same means itself sc t)) (expr-marked sc e) (λ d. map-marked (λ u. d then u) (resolvedTerms same means itself sc t) (terms-marked sc t))
+    terms-marked sc (e then t) = bind (resolvedExpr means sc e) (λ d. mapped (λ u. d then u) (resolvedTerms means sc t)) (expr-marked sc e) (λ d. map-marked (λ u. d then u) (resolvedTerms means sc t) (terms-marked sc t))
 
   module _ (x : Schema) where
     ruled-marked : (e : Entity) (o : Option (Expr Name)) (g : List (Combined N)) → Marked (ruled same means itself x e o g)
     unfolding ruled entered vacant
     ruled-marked e none g = fine g
-    ruled-marked e (some r) g = bind (resolvedExpr same means itself (scopeIn x) r) (λ d. entered same (e .place) (itself x e) d g) (expr-marked (scopeIn x) r) (λ d. by (find same (itself x e) g) (merged same (itself x e) d g))
+    ruled-marked e (some r) g = bind (resolvedExpr means (scopeIn x) r) (λ d. entered same (e .place) (itself x e) d g) (expr-marked (scopeIn x) r) (λ d. by (find same (itself x e) g) (merged same (itself x e) d g))
       where
         by : (o : Option (Expr N)) (h : List (Combined N)) → Marked (vacant same (e .place) o h)
         by none h = fine h
@@ -284,8 +284,8 @@ module _ {N : Type 0} (same : N → N → Bool) (means : Scope → Name → Answ
     unfolding constrained
     constrained-marked c none g = fine g
     constrained-marked c (some e) g =
-        bind (means (scopeIn x) (c .entity)) (λ p. resolvedExpr same means itself (scopeIn x) e >>= λ d. done (merged same p d g)) (m (scopeIn x) (c .entity))
-        (λ p. bind (resolvedExpr same means itself (scopeIn x) e) (λ d. done (merged same p d g)) (expr-marked (scopeIn x) e) (λ d. fine (merged same p d g)))
+        bind (means (scopeIn x) (c .entity)) (λ p. resolvedExpr means (scopeIn x) e >>= λ d. done (merged same p d g)) (m (scopeIn x) (c .entity))
+        (λ p. bind (resolvedExpr means (scopeIn x) e) (λ d. done (merged same p d g)) (expr-marked (scopeIn x) e) (λ d. fine (merged same p d g)))
 
     subtype-marked : (e : Entity) (n : Name) (ps : List (Pair N)) → Marked (subtype same means itself x e n ps)
     unfolding subtype

@@ -19,9 +19,8 @@ use Rattle.namespace.proofs.Proved.{resolve-once, get-once, path-once}
 use Rattle.constraints.proofs.Proved.{supertype-once, list-once, row-once, number-once, kth-once}
 use Rattle.type_ref.proofs.Proved.{type-once}
 use Rattle.codes.specs.MeaningCode.{read}
-use Rattle.exports.specs.MeaningNames.{endOf}
 use Rattle.codes.specs.Told.{judged, clear, decided, comparedParts, comparedScopes, typed}
-use Rattle.exports.specs.Promises.{Exported, Exported-name}
+use Rattle.exports.specs.Promises.{Exported, stopOf, Exported-name}
 use Rattle.exports.specs.Claims.{Once, OnceAlone, ExportedOnce, NameOnce}
 
 -- C reads different things from different numbers
@@ -68,7 +67,7 @@ exported-once = record {
 
 pub name-once : NameOnce
 unfolding Exported-name Asked
-name-once name place s i n m v w a b e f =
+name-once name s i n m v w a b e f =
     let u : e .0 ≡ f .0 = answers-once rust s true (done i) (pathAt (schemasIn s)) (e .0) (f .0) (e .1) (f .1) in
-    let k = read-once n m v w (sym (e .2) ∙ ap (mapped place) u ∙ f .2) in
-    (k .0, k .1, e .3 ∙ ap (endOf name place) u ∙ sym (f .3))
+    let k = read-once n m v w (sym (e .2) ∙ ap (mapped (λ p. name p .at)) u ∙ f .2) in
+    (k .0, k .1, e .3 ∙ ap (stopOf name) u ∙ sym (f .3))

@@ -4,6 +4,7 @@ use mathlib.Core.Path.{_≡_}
 use mathlib.Core.List.{List}
 use Rattle.refusal.specs.MeaningAnswer.{Answer}
 use Rattle.grammar.specs.MeaningReading.Reading.{rust}
+use Rattle.sheet.specs.MeaningName.{Name}
 use Rattle.scope.specs.MeaningScope.{Path}
 use Rattle.instantiables.specs.Told.{toldListed}
 use Rattle.expression.specs.Told.{toldNumber}
@@ -48,5 +49,4 @@ pub record ExportedOnce : Type 0 where
 
 -- of a name where it stands, not its bytes alone
 abbrev pub NameOnce : Type 0
-NameOnce = (name : Path → List ℕ) (place : Path → ℕ) (s : List ℕ) (i n m v w a b : ℕ)
-    → Exported-name name place s i n v a → Exported-name name place s i m w b → (n ≡ m) × (v ≡ w) × (a ≡ b)
+NameOnce = (name : Path → Name) (s : List ℕ) (i n m v w a b : ℕ) → Exported-name name s i n v a → Exported-name name s i m w b → (n ≡ m) × (v ≡ w) × (a ≡ b)

@@ -1,5 +1,4 @@
--- The meaning of places, then promises and claims.
-pub mod MeaningNames
+-- What the code carries, then promises and claims.
 pub mod MirrorNames
 pub mod Promises
 pub mod Claims

@@ -1,8 +1,7 @@
 // `schema_name` and `item_name`: C gets the start and the stop of the part of the sheet.
 ghost use mathlib.Core.Path.{_≡_};
 ghost use Rattle.declarations.specs.MeaningNamespace.{schemaName, itemName};
-ghost use Rattle.exports.specs.MeaningNames.{schemaPlace, itemPlace};
-ghost use Rattle.exports.specs.MirrorNames.{spotOf};
+ghost use Rattle.exports.specs.MirrorNames.{nameCode};
 ghost use Rattle.exports.specs.Promises.{Exported-name};
 use namespace::NamePlace;
 use namespace::PathName;
@@ -10,22 +9,22 @@ use namespace::name_place;
 use sheet::Reading;
 
 // A refusal's number and place, and 0; or 0, and where the name stands.
-pub struct Spot {
+pub struct NameCode {
     pub number: u8,
     pub start: u64,
     pub stop: u64,
 }
 
-fn spot_of(place: NamePlace) -> Spot
-    ensures { λ r. ⌜ r ≡ spotOf place ⌝ }
+fn code_of(place: NamePlace) -> NameCode
+    ensures { λ r. ⌜ r ≡ nameCode place ⌝ }
 {
     match place {
-        NamePlace::At(name) => Spot {
+        NamePlace::At(name) => NameCode {
             number: 0,
             start: name.start as u64,
             stop: name.stop as u64,
         },
-        NamePlace::Refused(why) => Spot {
+        NamePlace::Refused(why) => NameCode {
             number: why.number,
             start: why.place as u64,
             stop: 0,
@@ -33,16 +32,16 @@ fn spot_of(place: NamePlace) -> Spot
     }
 }
 
-fn schema_spot(sheet: &[u8], index: u16) -> Spot
-    ensures { λ r. ⌜ Exported-name schemaName schemaPlace (now (sheet .entry)) index (r .number) (r .start) (r .stop) ⌝ }
+fn schema_code(sheet: &[u8], index: u16) -> NameCode
+    ensures { λ r. ⌜ Exported-name schemaName (now (sheet .entry)) index (r .number) (r .start) (r .stop) ⌝ }
 {
-    spot_of(name_place(Reading::Rust, sheet, index, PathName::Schema))
+    code_of(name_place(Reading::Rust, sheet, index, PathName::Schema))
 }
 
-fn item_spot(sheet: &[u8], index: u16) -> Spot
-    ensures { λ r. ⌜ Exported-name itemName itemPlace (now (sheet .entry)) index (r .number) (r .start) (r .stop) ⌝ }
+fn item_code(sheet: &[u8], index: u16) -> NameCode
+    ensures { λ r. ⌜ Exported-name itemName (now (sheet .entry)) index (r .number) (r .start) (r .stop) ⌝ }
 {
-    spot_of(name_place(Reading::Rust, sheet, index, PathName::Item))
+    code_of(name_place(Reading::Rust, sheet, index, PathName::Item))
 }
 
 #[no_mangle]
@@ -52,12 +51,12 @@ pub extern "C" fn dinkolafe_schema_name(
     start: &mut u64,
     stop: &mut u64,
 ) -> u8
-    ensures { λ r. ⌜ Exported-name schemaName schemaPlace (now (sheet .entry)) index r (now (start .exit)) (now (stop .exit)) ⌝ }
+    ensures { λ r. ⌜ Exported-name schemaName (now (sheet .entry)) index r (now (start .exit)) (now (stop .exit)) ⌝ }
 {
-    let spot = schema_spot(sheet, index);
-    *start = spot.start;
-    *stop = spot.stop;
-    spot.number
+    let code = schema_code(sheet, index);
+    *start = code.start;
+    *stop = code.stop;
+    code.number
 }
 
 #[no_mangle]
@@ -67,10 +66,10 @@ pub extern "C" fn dinkolafe_item_name(
     start: &mut u64,
     stop: &mut u64,
 ) -> u8
-    ensures { λ r. ⌜ Exported-name itemName itemPlace (now (sheet .entry)) index r (now (start .exit)) (now (stop .exit)) ⌝ }
+    ensures { λ r. ⌜ Exported-name itemName (now (sheet .entry)) index r (now (start .exit)) (now (stop .exit)) ⌝ }
 {
-    let spot = item_spot(sheet, index);
-    *start = spot.start;
-    *stop = spot.stop;
-    spot.number
+    let code = item_code(sheet, index);
+    *start = code.start;
+    *stop = code.stop;
+    code.number
 }

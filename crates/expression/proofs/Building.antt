@@ -5,7 +5,7 @@ use mathlib.Core.List.{List, [], _∷_, map}
 use Prim.Native.Nat.{ℕ}
 use native.Mathlib.Omega.{arith}
 use Rattle.refusal.specs.MeaningAnswer.{Answer, done, refused, _>>=_}
-use Rattle.complex_entity.specs.MeaningSets.{_∈_, here, there, Rising, empty, next}
+use Rattle.complex_entity.specs.MeaningRising.{_∈_, here, there, Rising, empty, next}
 use Rattle.complex_entity.specs.MeaningParts.{Part, order, join}
 use Rattle.complex_entity.specs.MeaningLists as lists
 use Rattle.complex_entity.specs.MeaningLists.{oneofOf, andOf}

@@ -11,7 +11,7 @@ use lib.Seq.{drop-drop}
 use lib.Dec.{isEq}
 use Rattle.refusal.specs.MeaningAnswer.{done, refused}
 use Rattle.refusal.specs.declared.Refusal.{Refusal}
-use Rattle.complex_entity.specs.MeaningSets.{here, there, View, less, same, more, Below, Rising, next}
+use Rattle.complex_entity.specs.MeaningRising.{here, there, View, less, same, more, Below, Rising, next}
 use Rattle.complex_entity.specs.MeaningParts.{Part, order, moved}
 use Rattle.complex_entity.specs.MirrorParts.{by, partOf, partAt, madeOf}
 use Rattle.complex_entity.specs.declared.PartialComplexEntity.{PartialComplexEntity}

@@ -10,7 +10,7 @@ use native.Mathlib.Decide.{decLt}
 use lib.ListN.{length, getElem?}
 use lib.Dec.{T}
 use Rattle.refusal.specs.MeaningAnswer.{done, refused}
-use Rattle.complex_entity.specs.MeaningSets.{_∈_, here, there, Lt, Rising, empty, next}
+use Rattle.complex_entity.specs.MeaningRising.{_∈_, here, there, Lt, Rising, empty, next}
 use Rattle.complex_entity.specs.MeaningParts.{Part, order, moved}
 use Rattle.complex_entity.specs.MeaningLists.{equal}
 use Rattle.complex_entity.proofs.Orders.{part-order}

@@ -5,7 +5,7 @@ use mathlib.Core.List.{List, map}
 use Prim.Native.Nat.{ℕ, _≤_, _<_}
 use lib.ListN.{length}
 use Rattle.refusal.specs.MeaningAnswer.{done, refused}
-use Rattle.complex_entity.specs.MeaningSets.{_∈_, Lt, Rising}
+use Rattle.complex_entity.specs.MeaningRising.{_∈_, Lt, Rising}
 use Rattle.complex_entity.specs.MeaningParts.{Part, order}
 use Rattle.expression.specs.MeaningExpression.{Expr, eval}
 use Rattle.expression.specs.MeaningBuilds.{Builds}

@@ -2,7 +2,7 @@
 use mathlib.Core.Logic.{_⊎_, _↔_}
 use mathlib.Core.List.{[], _∷_}
 use Prim.Native.Nat.{ℕ, compare}
-use Rattle.complex_entity.specs.MeaningSets.{_∈_, Rising}
+use Rattle.complex_entity.specs.MeaningRising.{_∈_, Rising}
 use Rattle.complex_entity.specs.MeaningParts.{Part}
 use Rattle.expression.specs.MeaningExpression.{Expr, reference, andor, «and», oneof, Terms, end, _then_}
 

@@ -49,13 +49,13 @@ module _ (rd : Reading) (xs : List Schema) where
     mutual
       unfolding resolvedExpr
 
-      expr-alike : (e : Expr Name) → resolvedExpr eqb (numberMeant rd xs) (ownNumber rd xs) sc e ≡ resolvedExpr eqb (numberMeant rd xs) (ownNumber rd xs) sc' e
+      expr-alike : (e : Expr Name) → resolvedExpr (numberMeant rd xs) sc e ≡ resolvedExpr (numberMeant rd xs) sc' e
       expr-alike (reference x) = ap (mapped reference) (h x)
       expr-alike (andor t) = ap (mapped andor) (terms-alike t)
       expr-alike («and» t) = ap (mapped «and») (terms-alike t)
       expr-alike (oneof t) = ap (mapped oneof) (terms-alike t)
 
-      terms-alike : (t : Terms Name) → resolvedTerms eqb (numberMeant rd xs) (ownNumber rd xs) sc t ≡ resolvedTerms eqb (numberMeant rd xs) (ownNumber rd xs) sc' t
+      terms-alike : (t : Terms Name) → resolvedTerms (numberMeant rd xs) sc t ≡ resolvedTerms (numberMeant rd xs) sc' t
       terms-alike end = refl
       terms-alike (e then t) = ap₂ (λ (a : Answer (Expr ℕ)) (b : Answer (Terms ℕ)). a >>= λ d. mapped (λ u. d then u) b) (expr-alike e) (terms-alike t)
 
@@ -80,7 +80,7 @@ module _ (rd : Reading) (xs : List Schema) where
     unfolding ownNumber numberFor
     own-alike e = ap numberIn (declaration-same rd xs (ownPath x e) (ownPath (schemaNamed (x .name .bytes)) e) (path-alike e))
 
-    exprs : (e : Expr Name) → resolvedExpr eqb (numberMeant rd xs) (ownNumber rd xs) (scopeIn x) e ≡ resolvedExpr eqb (numberMeant rd xs) (ownNumber rd xs) (schemaScope (x .name .bytes)) e
+    exprs : (e : Expr Name) → resolvedExpr (numberMeant rd xs) (scopeIn x) e ≡ resolvedExpr (numberMeant rd xs) (schemaScope (x .name .bytes)) e
     exprs e = expr-alike (scopeIn x) (schemaScope (x .name .bytes)) means-alike e
 
     rule-alike : (p : ℕ) (g : Tree) (o : Option (Expr Name)) (cs : List (Combined ℕ))

@@ -28,7 +28,7 @@ use Rattle.merging.specs.MeaningMerging.{Combined}
 use Rattle.merging.specs.MirrorStream.{isFound}
 use Rattle.records.specs.MeaningResolving.{ruleOf}
 use Rattle.gathering.specs.MeaningGathering.{through, supersOf}
-use Rattle.records.specs.MirrorRecords.{numberMeant, ownNumber, fieldThen, Meets, no-more, next, Spells, no-expr, there, Kept, Within, Room, schemaNamed, toldFilled}
+use Rattle.records.specs.MirrorRecords.{numberMeant, ownNumber, fieldThen, Meets, no-more, next, SpellsExpr, no-expr, there, Kept, Within, Room, schemaNamed, toldFilled}
 use Rattle.gathering.specs.MirrorGathering.{sum, highest, ruleKept, constraintKept}
 use Rattle.gathering.specs.MirrorWalk.{tagFor, superKept, itemKept, itemsKept, isField, isFull, gives, giving, Begins, itemSize, itemLevel, itemsSize, itemsLevel}
 use Rattle.records.specs.declared.Filled.the-variants.{To}
@@ -42,7 +42,7 @@ use Rattle.gathering.proofs.Walking.{nests-for}
 
 -- ---- whether there is something
 
-spelt-full : (s : List ℕ) (o : Option (Expr Name)) (h : Header) → Spells s o h → isField h ≡ isFound o
+spelt-full : (s : List ℕ) (o : Option (Expr Name)) (h : Header) → SpellsExpr s o h → isField h ≡ isFound o
 unfolding isField isFound
 spelt-full s o Passes (no-expr z) = rw z refl
 spelt-full s o (Field t a b) (there m) = rw (m .is) refl
@@ -65,11 +65,11 @@ module _ (s : List ℕ) (at e : ℕ) (h : Header) (m : Meets s at e 0x34 0x34 h)
   super-first t a b q k n = rw (its-names s at e h m t a b q) (names-full s a b k n)
 
 module _ (rd : Reading) (k : Pass) (g : Tree) (s : List ℕ) (h : Header) where
-  pub given-rule : k ≡ Rules → Spells s (ruleOf rd (markOf g)) h → isField h ≡ gives rd k g
+  pub given-rule : k ≡ Rules → SpellsExpr s (ruleOf rd (markOf g)) h → isField h ≡ gives rd k g
   unfolding gives
   given-rule q S = rw q (spelt-full s (ruleOf rd (markOf g)) h S)
 
-  pub given-expr : k ≡ Constraints → Spells s (exprOf g) h → isField h ≡ gives rd k g
+  pub given-expr : k ≡ Constraints → SpellsExpr s (exprOf g) h → isField h ≡ gives rd k g
   unfolding gives
   given-expr q S = rw q (spelt-full s (exprOf g) h S)
 

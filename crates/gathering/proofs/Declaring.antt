@@ -8,7 +8,7 @@ use borrow.Author.Tests.{eqb-true, eq-eqb}
 use lib.Dec.{eqb}
 use lib.ListN.{length}
 use Rattle.refusal.specs.MeaningAnswer.{mapped}
-use Rattle.complex_entity.specs.MeaningSets.{_∈_, here, there}
+use Rattle.complex_entity.specs.MeaningRising.{_∈_, here, there}
 use Rattle.complex_entity.proofs.Members.{∈-append-left, ∈-append-right, ∈-map}
 use Rattle.merging.specs.Claims.{Equivalence}
 use Rattle.grammar.specs.MeaningReading.{Reading}

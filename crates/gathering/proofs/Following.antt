@@ -2,7 +2,7 @@
 use mathlib.Core.Path.{refl}
 use mathlib.Core.List.{List, [], _∷_}
 use Rattle.refusal.specs.MeaningAnswer.{Answer}
-use Rattle.complex_entity.specs.MeaningSets.{_∈_, here, there}
+use Rattle.complex_entity.specs.MeaningRising.{_∈_, here, there}
 use Rattle.records.proofs.Following.{Follows, has, follow-bind}
 use Rattle.gathering.specs.MeaningGathering.{through}
 

@@ -68,7 +68,7 @@ module _ {N : Type 0} (same : N → N → Bool) where
           → Follows (mergedOnto same []) Any (ruleKept same means itself x e o cs) (ruled same means itself x e o (mergedOnto same [] cs))
       unfolding ruleKept ruled
       rule-on x e none cs = has tt refl
-      rule-on x e (some r) cs = by (resolvedExpr same means itself (scopeIn x) r)
+      rule-on x e (some r) cs = by (resolvedExpr means (scopeIn x) r)
         where
           by : (a : Answer (Expr N)) → Follows (mergedOnto same []) Any (a >>= λ d. vacant same (e .place) (find same (itself x e) cs) (behind cs (itself x e) d)) (a >>= λ d. entered same (e .place) (itself x e) d (mergedOnto same [] cs))
           by (done d) = entered-on (e .place) (itself x e) d cs
@@ -78,7 +78,7 @@ module _ {N : Type 0} (same : N → N → Bool) where
           → Follows (mergedOnto same []) Any (constraintKept same means itself x c o cs) (constrained same means itself x c o (mergedOnto same [] cs))
       unfolding constraintKept constrained behind
       constraint-on x c none cs = has tt refl
-      constraint-on x c (some e) cs = by (means (scopeIn x) (c .entity)) (resolvedExpr same means itself (scopeIn x) e)
+      constraint-on x c (some e) cs = by (means (scopeIn x) (c .entity)) (resolvedExpr means (scopeIn x) e)
         where
           by : (a : Answer N) (b : Answer (Expr N)) → Follows (mergedOnto same []) Any (a >>= λ p. b >>= λ d. done (behind cs p d)) (a >>= λ p. b >>= λ d. done (merged same p d (mergedOnto same [] cs)))
           by (done p) (done d) = has tt (ap done (sym (onto-more [] cs p d)))

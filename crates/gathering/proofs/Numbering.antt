@@ -6,7 +6,7 @@ use mathlib.Core.Option.{Option, none, some}
 use Prim.Native.Nat.{ℕ}
 use lib.Dec.{eqb}
 use Rattle.refusal.specs.MeaningAnswer.{Answer, done, refused, mapped, _>>=_}
-use Rattle.complex_entity.specs.MeaningSets.{_∈_, here, there}
+use Rattle.complex_entity.specs.MeaningRising.{_∈_, here, there}
 use Rattle.grammar.specs.MeaningReading.{Reading}
 use Rattle.grammar.proofs.Choosing.{clash, either}
 use Rattle.schemas.specs.MeaningSchemas.{Schema}

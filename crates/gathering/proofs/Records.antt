@@ -33,7 +33,7 @@ use Rattle.declarations.specs.declared.Found.{Found}
 use Rattle.declarations.specs.declared.Found.the-variants as found
 use Rattle.records.proofs.Records.{Became, became, kept-done, kept-none, kept-refused, kept-same, refused-so, still-stands}
 use Rattle.records.specs.MeaningResolving.{ruleOf, resolvedExpr, ownPath}
-use Rattle.records.specs.MirrorRecords.{size, level, behind, numberMeant, ownNumber, wordAt, exprIn, Spelt, Spells, no-expr, there, Stands, Kept, Within, Room, schemaNamed, recordKept, toldFilled}
+use Rattle.records.specs.MirrorRecords.{size, level, behind, numberMeant, ownNumber, wordAt, exprIn, Spelt, SpellsExpr, no-expr, there, Stands, Kept, Within, Room, schemaNamed, recordKept, toldFilled}
 use Rattle.records.specs.declared.Filled.{Filled}
 use Rattle.records.specs.declared.Filled.the-variants.{To, Refused}
 use Rattle.gathering.specs.MirrorGathering.{given, markedBy, ruleKept, constraintKept}
@@ -42,7 +42,7 @@ use Rattle.gathering.specs.declared.Pass.the-variants.{Rules, Constraint
 
 -- ---- where the expression stands
 
-spelt : {s : List ℕ} {o : Option (Expr Name)} {h : Header} → Spells s o h → (t a b : ℕ) → h ≡ Field t a b → Spelt s o t a b
+spelt : {s : List ℕ} {o : Option (Expr Name)} {h : Header} → SpellsExpr s o h → (t a b : ℕ) → h ≡ Field t a b → Spelt s o t a b
 spelt (no-expr z) t a b q = clash (cc)
 spelt {s} {o} (there {t = u} {a = c} {b = d} m) t a b q =
     let x : u ≡ t = cc in
@@ -50,11 +50,11 @@ spelt {s} {o} (there {t = u} {a = c} {b = d} m) t a b q =
     let z : d ≡ b = cc in
     subst (λ (t : ℕ). Spelt s o t a b) x (subst (λ (a : ℕ). Spelt s o u a b) y (subst (λ (b : ℕ). Spelt s o u c b) z m))
 
-unspelt : {s : List ℕ} {o : Option (Expr Name)} {h : Header} → Spells s o h → h ≡ Passes → o ≡ none
+unspelt : {s : List ℕ} {o : Option (Expr Name)} {h : Header} → SpellsExpr s o h → h ≡ Passes → o ≡ none
 unspelt (no-expr z) q = z
 unspelt (there m) q = clash (cc)
 
-module _ (s : List ℕ) (o : Option (Expr Name)) (h : Header) (S : Spells s o h) (t a b : ℕ) (q : h ≡ Field t a b) where
+module _ (s : List ℕ) (o : Option (Expr Name)) (h : Header) (S : SpellsExpr s o h) (t a b : ℕ) (q : h ≡ Field t a b) where
   pub spelt-in : (at e : ℕ) → Within s at e → Within s a b
   spelt-in at e W = let x = spelt S t a b q in record { short = W .short; rising = x .rising; within = x .within }
 
@@ -91,7 +91,7 @@ unfolding vacant isFound
 vacant-so place none g k = refl
 vacant-so place (some d) g k = clash (cc)
 
-module _ (rd : Reading) (s : List ℕ) (at e used : ℕ) (w₀ : List ℕ) (R : Room (itemSize Rules (treeAt s at e)) (itemLevel Rules (treeAt s at e)) used w₀) (h : Header) (S : Spells s (ruleOf rd (markOf (treeAt s at e))) h) where
+module _ (rd : Reading) (s : List ℕ) (at e used : ℕ) (w₀ : List ℕ) (R : Room (itemSize Rules (treeAt s at e)) (itemLevel Rules (treeAt s at e)) used w₀) (h : Header) (S : SpellsExpr s (ruleOf rd (markOf (treeAt s at e))) h) where
   pub rule-skip : (xs : List Schema) (w : List ℕ) (place : ℕ) → h ≡ Passes → Kept (itemKept rd xs Rules (schemaNamed w) place (treeAt s at e)) (toldFilled (To used)) used w₀ w₀
   unfolding itemKept ruleKept toldFilled
   rule-skip xs w place q = kept-none used w₀ (R .front) (λ cs. rw (unspelt S q) refl)
@@ -107,7 +107,7 @@ module _ (rd : Reading) (s : List ℕ) (at e used : ℕ) (w₀ : List ℕ) (R : 
         (K : Kept (recordKept rd xs w owner (exprIn s t a b)) (toldFilled r) used w₀ w₁) where
       -- what is kept, once the expression is resolved
       resolved-first : (cs : List (Combined ℕ)) → itemKept rd xs Rules (schemaNamed w) place (treeAt s at e) cs
-          ≡ (resolvedExpr eqb (numberMeant rd xs) (ownNumber rd xs) (schemaScope w) (exprIn s t a b) >>= λ d. vacant eqb place (find eqb owner cs) (behind cs owner d))
+          ≡ (resolvedExpr (numberMeant rd xs) (schemaScope w) (exprIn s t a b) >>= λ d. vacant eqb place (find eqb owner cs) (behind cs owner d))
       unfolding itemKept ruleKept scopeIn schemaNamed schemaScope ownNumber ownPath pathIn itemOf entityOf
       resolved-first cs = rw (spelt S t a b q .is, O) refl
 
@@ -116,7 +116,7 @@ module _ (rd : Reading) (s : List ℕ) (at e used : ℕ) (w₀ : List ℕ) (R : 
       rule-handed why z =
           let cs = R .front .list in
           let f = refused-so K cs (R .front .stands) (why .number) (why .place) (ap toldFilled z) in
-          rw z (kept-refused w₁ cs (why .number) (why .place) (R .front .stands) (resolved-first cs ∙ by (resolvedExpr eqb (numberMeant rd xs) (ownNumber rd xs) (schemaScope w) (exprIn s t a b)) f))
+          rw z (kept-refused w₁ cs (why .number) (why .place) (R .front .stands) (resolved-first cs ∙ by (resolvedExpr (numberMeant rd xs) (schemaScope w) (exprIn s t a b)) f))
         where
           by : {n p : ℕ} (o : Answer (Expr ℕ)) → (o >>= λ d. done (behind (R .front .list) owner d)) ≡ refused n p → (o >>= λ d. vacant eqb place (find eqb owner (R .front .list)) (behind (R .front .list) owner d)) ≡ refused n p
           by (done d) k = clash (cc)
@@ -128,9 +128,9 @@ module _ (rd : Reading) (s : List ℕ) (at e used : ℕ) (w₀ : List ℕ) (R : 
         made = became K (R .front .list) (R .front .stands) n (ap toldFilled z)
 
         -- the expression that was resolved
-        taken : (d : Expr ℕ) × (resolvedExpr eqb (numberMeant rd xs) (ownNumber rd xs) (schemaScope w) (exprIn s t a b) ≡ done d) × (behind (R .front .list) owner d ≡ made .list)
+        taken : (d : Expr ℕ) × (resolvedExpr (numberMeant rd xs) (schemaScope w) (exprIn s t a b) ≡ done d) × (behind (R .front .list) owner d ≡ made .list)
         unfolding recordKept
-        taken = by (resolvedExpr eqb (numberMeant rd xs) (ownNumber rd xs) (schemaScope w) (exprIn s t a b)) (made .is)
+        taken = by (resolvedExpr (numberMeant rd xs) (schemaScope w) (exprIn s t a b)) (made .is)
           where
             by : {ds : List (Combined ℕ)} (o : Answer (Expr ℕ)) → (o >>= λ d. done (behind (R .front .list) owner d)) ≡ done ds → (d : Expr ℕ) × (o ≡ done d) × (behind (R .front .list) owner d ≡ ds)
             by (done d) k = (d, refl, cc)
@@ -155,7 +155,7 @@ pub ruleset ruling = (front-long, spelt-in, spelt-from, spelt-to, rule-skip, rul
 
 -- ---- `constraint_of`
 
-module _ (s : List ℕ) (at e used : ℕ) (w₀ : List ℕ) (R : Room (itemSize Constraints (treeAt s at e)) (itemLevel Constraints (treeAt s at e)) used w₀) (h : Header) (S : Spells s (exprOf (treeAt s at e)) h) where
+module _ (s : List ℕ) (at e used : ℕ) (w₀ : List ℕ) (R : Room (itemSize Constraints (treeAt s at e)) (itemLevel Constraints (treeAt s at e)) used w₀) (h : Header) (S : SpellsExpr s (exprOf (treeAt s at e)) h) where
   pub con-skip : (rd : Reading) (xs : List Schema) (w : List ℕ) → h ≡ Passes → Kept (itemKept rd xs Constraints (schemaNamed w) 0 (treeAt s at e)) (toldFilled (To used)) used w₀ w₀
   unfolding itemKept constraintKept toldFilled
   con-skip rd xs w q = kept-none used w₀ (R .front) (λ cs. rw (unspelt S q) refl)

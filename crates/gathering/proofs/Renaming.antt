@@ -4,7 +4,7 @@ use mathlib.Core.List.{List, [], _∷_, _++_, map}
 use mathlib.Core.Bool.{Bool}
 use mathlib.Core.Option.{Option, none, some}
 use Rattle.refusal.specs.MeaningAnswer.{Answer, done, mapped, _>>=_}
-use Rattle.complex_entity.specs.MeaningSets.{_∈_}
+use Rattle.complex_entity.specs.MeaningRising.{_∈_}
 use Rattle.grammar.specs.MeaningReading.{Reading}
 use Rattle.sheet.specs.MeaningName.{Name}
 use Rattle.schemas.specs.MeaningSchemas.{Entity, Constraint, Schema}
@@ -40,15 +40,15 @@ module _ {N M : Type 0} (f : N → M) (same : N → N → Bool) (same' : M → M
   mutual
     unfolding resolvedExpr mapExpr GoodExpr
 
-    expr-renamed : (sc : Scope) (e : Expr Name) → Follows (mapExpr f) (GoodExpr Good) (resolvedExpr same means itself sc e) (resolvedExpr same' means' itself' sc e)
+    expr-renamed : (sc : Scope) (e : Expr Name) → Follows (mapExpr f) (GoodExpr Good) (resolvedExpr means sc e) (resolvedExpr means' sc e)
     expr-renamed sc (reference x) = follow-by reference reference (meant sc x) (λ n g. (g, refl))
     expr-renamed sc (andor t) = follow-by andor andor (terms-renamed sc t) (λ u g. (g, refl))
     expr-renamed sc («and» t) = follow-by «and» «and» (terms-renamed sc t) (λ u g. (g, refl))
     expr-renamed sc (oneof t) = follow-by oneof oneof (terms-renamed sc t) (λ u g. (g, refl))
 
-    terms-renamed : (sc : Scope) (t : Terms Name) → Follows (mapTerms f) (GoodTerms Good) (resolvedTerms same means itself sc t) (resolvedTerms same' means' itself' sc t)
+    terms-renamed : (sc : Scope) (t : Terms Name) → Follows (mapTerms f) (GoodTerms Good) (resolvedTerms means sc t) (resolvedTerms means' sc t)
     terms-renamed sc end = has tt refl
-    terms-renamed sc (e then t) = follow-bind (λ d. mapped (λ u. d then u) (resolvedTerms same' means' itself' sc t)) (expr-renamed sc e) (λ d g. follow-by (λ u. d then u) (λ u. mapExpr f d then u) (terms-renamed sc t) (λ u h. ((g, h), refl)))
+    terms-renamed sc (e then t) = follow-bind (λ d. mapped (λ u. d then u) (resolvedTerms means' sc t)) (expr-renamed sc e) (λ d g. follow-by (λ u. d then u) (λ u. mapExpr f d then u) (terms-renamed sc t) (λ u h. ((g, h), refl)))
 
   behind-renamed : (cs : List (Combined N)) (p : N) (e : Expr N) → behind (map (mapCombined f) cs) (f p) (mapExpr f e) ≡ map (mapCombined f) (behind cs p e)
   unfolding behind
@@ -78,7 +78,7 @@ module _ {N M : Type 0} (f : N → M) (same : N → N → Bool) (same' : M → M
   unfolding constraintKept
   constraint-renamed x c none cs C = has C refl
   constraint-renamed x c (some r) cs C =
-      follow-bind (λ p. resolvedExpr same' means' itself' (scopeIn x) r >>= λ d. done (behind (map (mapCombined f) cs) p d)) (meant (scopeIn x) (c .entity))
+      follow-bind (λ p. resolvedExpr means' (scopeIn x) r >>= λ d. done (behind (map (mapCombined f) cs) p d)) (meant (scopeIn x) (c .entity))
       (λ p P. follow-bind (λ d. done (behind (map (mapCombined f) cs) (f p) d)) (expr-renamed (scopeIn x) r) (λ d E. has (behind-good cs p d C P E) (ap done (behind-renamed cs p d))))
 
   subtype-renamed : (x : Schema) (e : Entity) → Good (itself x e) → (n : Name) (ps : List (Pair N)) → Each (GoodPair Good) ps

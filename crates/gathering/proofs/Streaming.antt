@@ -6,7 +6,7 @@ use Prim.Native.Nat.{ℕ, _≤_}
 use native.Mathlib.Omega.{arith}
 use lib.Dec.{eqb}
 use Rattle.refusal.specs.MeaningAnswer.{Answer, done, refused, _>>=_}
-use Rattle.complex_entity.specs.MeaningSets.{_∈_, here, there}
+use Rattle.complex_entity.specs.MeaningRising.{_∈_, here, there}
 use Rattle.grammar.specs.MeaningReading.{Reading}
 use Rattle.sheet.specs.MeaningName.{Name}
 use Rattle.schemas.specs.MeaningSchemas.{Entity, Constraint, Schema}
@@ -46,7 +46,7 @@ module _ (rd : Reading) (xs : List Schema) where
   rule-low x e h none q cs C = has C refl
   rule-low x e h (some r) q cs C =
       let z : level r ≤ 5 = rw (rule-marked rd (e .mark) r q) at h in
-      follow-bind (λ d. vacant eqb (e .place) (find eqb (ownNumber rd xs x e) cs) (behind cs (ownNumber rd xs x e) d)) (expr-sized (numberMeant rd xs) (ownNumber rd xs) (scopeIn x) r)
+      follow-bind (λ d. vacant eqb (e .place) (find eqb (ownNumber rd xs x e) cs) (behind cs (ownNumber rd xs x e) d)) (expr-sized (numberMeant rd xs) (scopeIn x) r)
       (λ d g. by (find eqb (ownNumber rd xs x e) cs) (behind cs (ownNumber rd xs x e) d) (behind-low cs (ownNumber rd xs x e) d C (omega (arith, g .1))))
     where
       by : (o : Option (Expr ℕ)) (g : List (Combined ℕ)) → Each Low g → Kept-low (vacant eqb (e .place) o g)
@@ -58,8 +58,8 @@ module _ (rd : Reading) (xs : List Schema) where
   constraint-low x c h none q cs C = has C refl
   constraint-low x c h (some r) q cs C = by (numberMeant rd xs (scopeIn x) (c .entity))
     where
-      by : (a : Answer ℕ) → Kept-low (a >>= λ p. resolvedExpr eqb (numberMeant rd xs) (ownNumber rd xs) (scopeIn x) r >>= λ d. done (behind cs p d))
-      by (done p) = let z : level r ≤ 5 = rw q at h in follow-bind (λ d. done (behind cs p d)) (expr-sized (numberMeant rd xs) (ownNumber rd xs) (scopeIn x) r) (λ d g. has (behind-low cs p d C (omega (arith, g .1))) refl)
+      by : (a : Answer ℕ) → Kept-low (a >>= λ p. resolvedExpr (numberMeant rd xs) (scopeIn x) r >>= λ d. done (behind cs p d))
+      by (done p) = let z : level r ≤ 5 = rw q at h in follow-bind (λ d. done (behind cs p d)) (expr-sized (numberMeant rd xs) (scopeIn x) r) (λ d g. has (behind-low cs p d C (omega (arith, g .1))) refl)
       by (refused n j) = has-not refl
 
   pub streams-low : Bounded xs → (both : List (Combined ℕ) × List (Pair ℕ)) → streams rd xs ≡ done both → Each Low (both .0)

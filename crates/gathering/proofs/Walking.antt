@@ -81,9 +81,9 @@ through-cheap f c C (x ∷ l) cs ds q = by (f x cs) refl q (λ es k. through-che
 
 module _ (rd : Reading) (xs : List Schema) where
   -- a record takes one number more than its nodes
-  record-cheap : (sc : Scope) (r : Expr Name) (cs : List (Combined ℕ)) (p : ℕ) (d : Expr ℕ) → resolvedExpr eqb (numberMeant rd xs) (ownNumber rd xs) sc r ≡ done d
+  record-cheap : (sc : Scope) (r : Expr Name) (cs : List (Combined ℕ)) (p : ℕ) (d : Expr ℕ) → resolvedExpr (numberMeant rd xs) sc r ≡ done d
       → length (streamOf (behind cs p d)) ≤ length (streamOf cs) + 4 * size r
-  record-cheap sc r cs p d q = by (expr-sized (numberMeant rd xs) (ownNumber rd xs) sc r) q
+  record-cheap sc r cs p d q = by (expr-sized (numberMeant rd xs) sc r) q
     where
       by : {a b : Answer (Expr ℕ)} → Follows (λ (d : Expr ℕ). d) (λ d. (length (flat d) ≡ 3 * size r) × (height d ≡ level r)) a b → a ≡ done d → length (streamOf (behind cs p d)) ≤ length (streamOf cs) + 4 * size r
       by (has {g = u} g z) k = let y : u ≡ d = cc in let l : length (flat d) ≡ 3 * size r = rw (← y) (g .0) in omega (arith, behind-length cs p d, size-some r)
@@ -93,7 +93,7 @@ module _ (rd : Reading) (xs : List Schema) where
   unfolding itemKept itemSize ruleKept given vacant entityOf
   rule-cheap x p g cs ds q = by (ruleOf rd (markOf g)) refl q
     where
-      made : (r : Expr Name) (a : Answer (Expr ℕ)) → resolvedExpr eqb (numberMeant rd xs) (ownNumber rd xs) (scopeIn x) r ≡ a → (o : Option (Expr ℕ))
+      made : (r : Expr Name) (a : Answer (Expr ℕ)) → resolvedExpr (numberMeant rd xs) (scopeIn x) r ≡ a → (o : Option (Expr ℕ))
           → (a >>= λ d. vacant eqb p o (behind cs (ownNumber rd xs x (entityOf p g)) d)) ≡ done ds → length (streamOf ds) ≤ length (streamOf cs) + 4 * size r
       made r (done d) e none k = let z : behind cs (ownNumber rd xs x (entityOf p g)) d ≡ ds = cc in rw (← z) (record-cheap (scopeIn x) r cs (ownNumber rd xs x (entityOf p g)) d e)
       made r (done d) e (some y) k = clash (cc)
@@ -101,20 +101,20 @@ module _ (rd : Reading) (xs : List Schema) where
 
       by : (o : Option (Expr Name)) → ruleOf rd (markOf g) ≡ o → ruleKept eqb (numberMeant rd xs) (ownNumber rd xs) x (entityOf p g) o cs ≡ done ds → length (streamOf ds) ≤ length (streamOf cs) + 4 * given size (markedBy (markOf g))
       by none e k = let z : cs ≡ ds = cc in rw z (omega arith)
-      by (some r) e k = rw (rule-marked rd (markOf g) r e) (made r (resolvedExpr eqb (numberMeant rd xs) (ownNumber rd xs) (scopeIn x) r) refl (find eqb (ownNumber rd xs x (entityOf p g)) cs) k)
+      by (some r) e k = rw (rule-marked rd (markOf g) r e) (made r (resolvedExpr (numberMeant rd xs) (scopeIn x) r) refl (find eqb (ownNumber rd xs x (entityOf p g)) cs) k)
 
   constraint-cheap : (x : Schema) (p : ℕ) (g : Tree) (cs ds : List (Combined ℕ)) → itemKept rd xs Constraints x p g cs ≡ done ds → length (streamOf ds) ≤ length (streamOf cs) + 4 * itemSize Constraints g
   unfolding itemKept itemSize constraintKept given
   constraint-cheap x p g cs ds q = by (exprOf g) q
     where
-      made : (r : Expr Name) (b : Answer ℕ) (a : Answer (Expr ℕ)) → resolvedExpr eqb (numberMeant rd xs) (ownNumber rd xs) (scopeIn x) r ≡ a → (b >>= λ j. a >>= λ d. done (behind cs j d)) ≡ done ds → length (streamOf ds) ≤ length (streamOf cs) + 4 * size r
+      made : (r : Expr Name) (b : Answer ℕ) (a : Answer (Expr ℕ)) → resolvedExpr (numberMeant rd xs) (scopeIn x) r ≡ a → (b >>= λ j. a >>= λ d. done (behind cs j d)) ≡ done ds → length (streamOf ds) ≤ length (streamOf cs) + 4 * size r
       made r (done j) (done d) e k = let z : behind cs j d ≡ ds = cc in rw (← z) (record-cheap (scopeIn x) r cs j d e)
       made r (done j) (refused n i) e k = clash (cc)
       made r (refused n i) a e k = clash (cc)
 
       by : (o : Option (Expr Name)) → constraintKept eqb (numberMeant rd xs) (ownNumber rd xs) x (constraintOf p g) o cs ≡ done ds → length (streamOf ds) ≤ length (streamOf cs) + 4 * given size o
       by none k = let z : cs ≡ ds = cc in rw z (omega arith)
-      by (some r) k = made r (numberMeant rd xs (scopeIn x) (constraintOf p g .entity)) (resolvedExpr eqb (numberMeant rd xs) (ownNumber rd xs) (scopeIn x) r) refl k
+      by (some r) k = made r (numberMeant rd xs (scopeIn x) (constraintOf p g .entity)) (resolvedExpr (numberMeant rd xs) (scopeIn x) r) refl k
 
   pub item-cheap : (k : Pass) (x : Schema) → Cheap (λ (i : ℕ × Tree). itemKept rd xs k x (i .0) (i .1)) (λ i. itemSize k (i .1))
   unfolding itemKept itemSize

@@ -3,7 +3,7 @@ use mathlib.Core.Path.{_≡_}
 use mathlib.Core.List.{List}
 use mathlib.Core.Option.{some}
 use Rattle.refusal.specs.MeaningAnswer.{done}
-use Rattle.complex_entity.specs.MeaningSets.{_∈_}
+use Rattle.complex_entity.specs.MeaningRising.{_∈_}
 use Rattle.grammar.specs.MeaningReading.{Reading}
 use Rattle.schemas.specs.MeaningSchemas.{Schema}
 use Rattle.scope.specs.MeaningScope.{Path}

@@ -27,7 +27,7 @@ module _ {N : Type 0} (same : N → N → Bool) (means : Scope → Name → Answ
   -- step b: "names are resolved first, then a second one for the same path is refused", at the "second entity's field 30"
   unfoldable pub ruled : Schema → Entity → Option (Expr Name) → List (Combined N) → Answer (List (Combined N))
   ruled x e none g = done g
-  ruled x e (some r) g = resolvedExpr same means itself (scopeIn x) r >>= λ d. entered same (e .place) (itself x e) d g
+  ruled x e (some r) g = resolvedExpr means (scopeIn x) r >>= λ d. entered same (e .place) (itself x e) d g
 
   unfoldable pub stepB : Reading → List Schema → List (Combined N) → Answer (List (Combined N))
   stepB rd xs g = through (λ x. through (λ e. ruled x e (ruleOf rd (e .mark))) (x .entities)) xs g
@@ -35,7 +35,7 @@ module _ {N : Type 0} (same : N → N → Bool) (means : Scope → Name → Answ
   -- step d: "each field 40 with an expression resolves its entity, then its expression, and merges. Without an expression it is skipped, even if its entity is unknown."
   unfoldable pub constrained : Schema → Constraint → Option (Expr Name) → List (Combined N) → Answer (List (Combined N))
   constrained x c none g = done g
-  constrained x c (some e) g = means (scopeIn x) (c .entity) >>= λ p. resolvedExpr same means itself (scopeIn x) e >>= λ d. done (merged same p d g)
+  constrained x c (some e) g = means (scopeIn x) (c .entity) >>= λ p. resolvedExpr means (scopeIn x) e >>= λ d. done (merged same p d g)
 
   unfoldable pub stepD : List Schema → List (Combined N) → Answer (List (Combined N))
   stepD xs g = through (λ x. through (λ c. constrained x c (c .expr)) (x .constraints)) xs g

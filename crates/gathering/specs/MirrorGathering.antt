@@ -78,7 +78,7 @@ module _ {N : Type 0} (same : N → N → Bool) (means : Scope → Name → Answ
   -- step b: 8 where an earlier record has the owner
   unfoldable pub ruleKept : Schema → Entity → Option (Expr Name) → List (Combined N) → Answer (List (Combined N))
   ruleKept x e none cs = done cs
-  ruleKept x e (some r) cs = resolvedExpr same means itself (scopeIn x) r >>= λ d. vacant same (e .place) (find same (itself x e) cs) (behind cs (itself x e) d)
+  ruleKept x e (some r) cs = resolvedExpr means (scopeIn x) r >>= λ d. vacant same (e .place) (find same (itself x e) cs) (behind cs (itself x e) d)
 
   unfoldable pub rulesKept : Reading → Schema → List (Combined N) → Answer (List (Combined N))
   rulesKept rd x cs = through (λ e. ruleKept x e (ruleOf rd (e .mark))) (x .entities) cs
@@ -86,7 +86,7 @@ module _ {N : Type 0} (same : N → N → Bool) (means : Scope → Name → Answ
   -- step d
   unfoldable pub constraintKept : Schema → Constraint → Option (Expr Name) → List (Combined N) → Answer (List (Combined N))
   constraintKept x c none cs = done cs
-  constraintKept x c (some e) cs = means (scopeIn x) (c .entity) >>= λ p. resolvedExpr same means itself (scopeIn x) e >>= λ d. done (behind cs p d)
+  constraintKept x c (some e) cs = means (scopeIn x) (c .entity) >>= λ p. resolvedExpr means (scopeIn x) e >>= λ d. done (behind cs p d)
 
   unfoldable pub constraintsKept : Schema → List (Combined N) → Answer (List (Combined N))
   constraintsKept x cs = through (λ c. constraintKept x c (c .expr)) (x .constraints) cs

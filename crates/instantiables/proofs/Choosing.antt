@@ -9,7 +9,7 @@ use lib.ListN.{length, getD, take, drop}
 use lib.Dec.{leb, leb→le, le→leb}
 use Rattle.refusal.specs.MeaningAnswer.{Answer, done, refused}
 use Rattle.refusal.specs.declared.Refusal.{Refusal}
-use Rattle.complex_entity.specs.MeaningSets.{here, there, Rising}
+use Rattle.complex_entity.specs.MeaningRising.{here, there, Rising}
 use Rattle.complex_entity.specs.MeaningParts.{Part, order}
 use Rattle.complex_entity.specs.MeaningLists.{joins, held, andor, andorOf}
 use Rattle.complex_entity.specs.MirrorLists.{grown, andorFrom}

@@ -7,7 +7,7 @@ use native.Mathlib.Omega.{arith}
 use lib.ListN.{length, take, drop, length-append}
 use Rattle.refusal.specs.MeaningAnswer.{Answer, refused}
 use Rattle.refusal.specs.declared.Refusal.{Refusal}
-use Rattle.complex_entity.specs.MeaningSets.{_∈_}
+use Rattle.complex_entity.specs.MeaningRising.{_∈_}
 use Rattle.complex_entity.specs.MeaningParts.{Part}
 use Rattle.complex_entity.specs.MeaningLists.{add, joins, bitand, held}
 use Rattle.complex_entity.specs.MeaningRows.{flat}

@@ -6,7 +6,7 @@ use native.Mathlib.Omega.{arith}
 use native.Mathlib.Decide.{decLt}
 use lib.ListN.{length, drop}
 use Rattle.refusal.specs.MeaningAnswer.{Answer, done, refused}
-use Rattle.complex_entity.specs.MeaningSets.{_∈_, here, there, Rising}
+use Rattle.complex_entity.specs.MeaningRising.{_∈_, here, there, Rising}
 use Rattle.complex_entity.specs.MeaningParts.{Part, join}
 use Rattle.complex_entity.specs.MeaningLists.{add, joins, held}
 use Rattle.complex_entity.specs.MirrorParts.{namesOf, narrowOf, merge, partAt}

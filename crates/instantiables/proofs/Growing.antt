@@ -5,7 +5,7 @@ use mathlib.Core.List.{List, [], _++_}
 use native.Mathlib.Omega.{arith}
 use lib.ListN.{length}
 use Rattle.refusal.specs.MeaningAnswer.{Answer, done, refused}
-use Rattle.complex_entity.specs.MeaningSets.{_∈_, Rising}
+use Rattle.complex_entity.specs.MeaningRising.{_∈_, Rising}
 use Rattle.complex_entity.specs.MeaningParts.{Part, order}
 use Rattle.complex_entity.specs.MeaningLists.{add, held}
 use Rattle.complex_entity.proofs.Sets.{subset-length}

@@ -10,7 +10,8 @@ use mir.Syntax.{w64}
 use mir.Val.{Fits}
 use borrow.Author.Needs.{fits-under}
 use Rattle.refusal.specs.MeaningAnswer.{done}
-use Rattle.complex_entity.specs.MeaningSets.{insert, put, here, there}
+use Rattle.complex_entity.specs.MeaningSets.{sortIn, put}
+use Rattle.complex_entity.specs.MeaningRising.{here, there}
 use Rattle.complex_entity.specs.MeaningParts.{Part, order}
 use Rattle.complex_entity.specs.MeaningLists.{add, held}
 use Rattle.complex_entity.specs.MeaningRows.{rowOf, flat}
@@ -37,7 +38,7 @@ data Seen (L : List Part) (p : Part) (R : List Part) : Spot → Type 0 where
   found : (i : ℕ) → R ≡ L → Seen L p R (Found i)
   before : (i : ℕ) → i ≤ length L → R ≡ take i L ++ p ∷ drop i L → Seen L p R (Gap i)
 
-seen : (L : List Part) (p : Part) → Seen L p (insert order p L) (placeOf L p)
+seen : (L : List Part) (p : Part) → Seen L p (sortIn order p L) (placeOf L p)
 unfolding placeOf
 seen [] p = before 0 (omega arith) refl
 seen (q ∷ L) p = go (order p q) (seen L p)
@@ -51,21 +52,21 @@ seen (q ∷ L) p = go (order p q) (seen L p)
         rw n (before (suc i) (omega arith) (ap (λ (t : List Part). q ∷ t) e))
 
 module _ (L : List Part) (p : Part) (s : Spot) (i : ℕ) (e : s ≡ placeOf L p) where
-  found-is : s ≡ Found i → insert order p L ≡ L
+  found-is : s ≡ Found i → sortIn order p L ≡ L
   found-is g = go (seen L p) (sym e ∙ g)
     where
-      go : {t : Spot} → Seen L p (insert order p L) t → t ≡ Found i → insert order p L ≡ L
+      go : {t : Spot} → Seen L p (sortIn order p L) t → t ≡ Found i → sortIn order p L ≡ L
       go (found j w) x = w
       go (before j h w) x = let z : _≡_ {A = ℕ} 0 1 = cc in absurd (omega arith)
 
-  gap-is : s ≡ Gap i → (i ≤ length L) × (insert order p L ≡ take i L ++ p ∷ drop i L)
+  gap-is : s ≡ Gap i → (i ≤ length L) × (sortIn order p L ≡ take i L ++ p ∷ drop i L)
   gap-is g = go (seen L p) (sym e ∙ g)
     where
-      go : {t : Spot} → Seen L p (insert order p L) t → t ≡ Gap i → (i ≤ length L) × (insert order p L ≡ take i L ++ p ∷ drop i L)
+      go : {t : Spot} → Seen L p (sortIn order p L) t → t ≡ Gap i → (i ≤ length L) × (sortIn order p L ≡ take i L ++ p ∷ drop i L)
       go (found j w) x = let z : _≡_ {A = ℕ} 0 1 = cc in absurd (omega arith)
       go (before j h w) x =
           let y : j ≡ i = cc in
-          subst (λ (k : ℕ). (k ≤ length L) × (insert order p L ≡ take k L ++ p ∷ drop k L)) y (h, w)
+          subst (λ (k : ℕ). (k ≤ length L) × (sortIn order p L ≡ take k L ++ p ∷ drop k L)) y (h, w)
 
 -- the numbers from at up to end, a row further up
 abbrev opened : ℕ → ℕ → List ℕ → List ℕ
@@ -120,20 +121,20 @@ module _ (rows : List ℕ) (count : ℕ) (x : PartialComplexEntity) (s : Spot) (
   more : List Part
   more = add (partsAt count rows) (namesOf x ∷ [])
 
-  is-insert : more ≡ insert order (namesOf x) (partsAt count rows)
+  is-sorted-in : more ≡ sortIn order (namesOf x) (partsAt count rows)
   unfolding more
-  is-insert = add-one-part (namesOf x) (h .ordered)
+  is-sorted-in = add-one-part (namesOf x) (h .ordered)
 
   pub insert-found : s ≡ Found i → Listing (held (add (partsAt count rows) (namesOf x ∷ []))) rows rows (done count)
   unfolding more
-  insert-found g = listing-same _ rows rows count (ap held (is-insert ∙ found-is (partsAt count rows) (namesOf x) s i e g)) h refl
+  insert-found g = listing-same _ rows rows count (ap held (is-sorted-in ∙ found-is (partsAt count rows) (namesOf x) s i e g)) h refl
 
   module _ (g : s ≡ Gap i) where
     inside : i ≤ count
     inside = rw (parts-length count rows) at (gap-is (partsAt count rows) (namesOf x) s i e g .0)
 
     more-is : more ≡ take i (partsAt count rows) ++ namesOf x ∷ drop i (partsAt count rows)
-    more-is = is-insert ∙ gap-is (partsAt count rows) (namesOf x) s i e g .1
+    more-is = is-sorted-in ∙ gap-is (partsAt count rows) (namesOf x) s i e g .1
 
     longer : length more ≡ count + 1
     longer =

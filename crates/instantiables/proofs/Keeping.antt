@@ -8,7 +8,7 @@ use native.Mathlib.Omega.{arith}
 use lib.ListN.{length, take, drop, length-append}
 use lib.Seq.{paste, length-paste, take-at, drop-at, drop-drop, take-all, append-snoc}
 use Rattle.refusal.specs.MeaningAnswer.{done}
-use Rattle.complex_entity.specs.MeaningSets.{here, there}
+use Rattle.complex_entity.specs.MeaningRising.{here, there}
 use Rattle.complex_entity.specs.MeaningParts.{Part, contains}
 use Rattle.complex_entity.specs.MeaningLists.{keep, keepIf, any, equal, sub, div}
 use Rattle.complex_entity.specs.MeaningRows.{rowOf, flat}

@@ -6,7 +6,7 @@ use native.Mathlib.Omega.{arith}
 use lib.ListN.{length, take, drop, length-append, length-drop, take-append-drop}
 use lib.Seq.{paste, take-at, drop-at, drop-drop}
 use Rattle.refusal.specs.MeaningAnswer.{Answer, done, refused, mapped}
-use Rattle.complex_entity.specs.MeaningSets.{Rising, empty}
+use Rattle.complex_entity.specs.MeaningRising.{Rising, empty}
 use Rattle.complex_entity.specs.MeaningParts.{Part, order}
 use Rattle.complex_entity.specs.MeaningLists.{held}
 use Rattle.complex_entity.specs.MeaningRows.{rowOf, flat}

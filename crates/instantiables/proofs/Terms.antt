@@ -7,7 +7,7 @@ use lib.ListN.{length, getD, take, drop, length-append, length-drop}
 use lib.Seq.{drop-drop, length-take-le}
 use Rattle.refusal.specs.MeaningAnswer.{Answer, done, refused, _>>=_}
 use Rattle.refusal.specs.declared.Refusal.{Refusal}
-use Rattle.complex_entity.specs.MeaningSets.{here, there}
+use Rattle.complex_entity.specs.MeaningRising.{here, there}
 use Rattle.complex_entity.specs.MeaningParts.{Part}
 use Rattle.complex_entity.specs.MeaningLists.{joins, bitand, held, prefixes, andOf}
 use Rattle.complex_entity.proofs.Sets.{tidy-old, tidy-rising}

@@ -4,7 +4,7 @@ use mathlib.Core.List.{List, [], _∷_}
 use Prim.Native.Nat.{ℕ, _+_, _*_, compare}
 use lib.ListN.{length, drop}
 use Rattle.refusal.specs.MeaningAnswer.{Answer, done, refused, mapped}
-use Rattle.complex_entity.specs.MeaningSets.{_∈_, Rising}
+use Rattle.complex_entity.specs.MeaningRising.{_∈_, Rising}
 use Rattle.complex_entity.specs.MeaningParts.{Part}
 use Rattle.rows.specs.MirrorRows.{partsAt, Put}
 

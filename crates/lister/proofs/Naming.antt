@@ -27,20 +27,20 @@ module _ (rd : Reading) where
   unfolding sameStep
   step-name x y e = same-bytes rd (x .name .bytes) (y .name .bytes) (both (eqb (placeOf (x .kind)) (placeOf (y .kind))) (sameName rd (x .name .bytes) (y .name .bytes)) e .1)
 
-  outer-name : (a b : Scope) → sameScope rd a b ≡ true → outermost a ≡ outermost b
+  outer-name : (a b : Scope) → sameScope rd a b ≡ true → outermost a .bytes ≡ outermost b .bytes
   unfolding sameScope outermost
   outer-name [] [] e = refl
   outer-name [] (y ∷ ys) e = clash (cc)
   outer-name (x ∷ xs) [] e = clash (cc)
   outer-name (x ∷ xs) (y ∷ ys) e = step-name x y (both (sameStep rd x y) (sameScope rd xs ys) e .0)
 
-  path-names : (p q : Path) → samePath rd p q ≡ true → (schemaName p ≡ schemaName q) × (itemName p ≡ itemName q)
+  path-names : (p q : Path) → samePath rd p q ≡ true → (schemaName p .bytes ≡ schemaName q .bytes) × (itemName p .bytes ≡ itemName q .bytes)
   unfolding samePath schemaName itemName
   path-names p q e =
       let z = both (sameScope rd (p .scope) (q .scope)) (sameStep rd (p .item) (q .item)) e in
       (outer-name (p .scope) (q .scope) (z .0), step-name (p .item) (q .item) (z .1))
 
-  pub declared-names : (xs : List Schema) (p : Path) → IsDeclared rd xs p → namesOf xs (numberFor rd xs p) ≡ record { schema = schemaName p; item = itemName p }
+  pub declared-names : (xs : List Schema) (p : Path) → IsDeclared rd xs p → namesOf xs (numberFor rd xs p) ≡ record { schema = schemaName p .bytes; item = itemName p .bytes }
   unfolding namesOf namesAt
   declared-names xs p D =
       let d = D .0 in

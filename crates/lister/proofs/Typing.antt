@@ -116,7 +116,7 @@ module _ (s names : List ℕ) (n : ℕ) (o : Sought) (t : o ≡ typeFrom (schema
     type-less h stop = let f = found in record { fewer = λ k. omega (arith, type-small h, f .place) }
 
     pub type-given : (rd : Reading) (before after : List ℕ) (stop : ℕ)
-        → ((walked : Path → Answer Bool) → AllWalked rd s walked → (d : Declaration) (t : TypeDecl) → getElem? (declarations xs) m ≡ some d → d .named ≡ a-type t → Puts (typeLine (schemaName (d .path)) (itemName (d .path)) (flagsOf rd xs walked (d .path))) 0 stop before after)
+        → ((walked : Path → Answer Bool) → AllWalked rd s walked → (d : Declaration) (t : TypeDecl) → getElem? (declarations xs) m ≡ some d → d .named ≡ a-type t → Puts (typeLine (schemaName (d .path) .bytes) (itemName (d .path) .bytes) (flagsOf rd xs walked (d .path))) 0 stop before after)
         → (work : List ℕ) → GivesFirst rd s names work (on.Types n) work before after (record { stop = stop; next = on.Types (m + 1) })
     unfolding Rest Gives typesFrom typeLines typeLinesOf
     type-given rd before after stop F work =
@@ -126,7 +126,7 @@ module _ (s names : List ℕ) (n : ℕ) (o : Sought) (t : o ≡ typeFrom (schema
               let P = F walked W (f .it) (f .decl) there (f .is) in
               let l : typeLines rd xs walked (drop n (declarations xs)) ≡ typeLines rd xs walked (drop m (declarations xs)) = f .lines rd walked ∙ ap (typeLines rd xs walked) (drop-drop (f .on) n (declarations xs) ∙ ap (λ (k : ℕ). drop k (declarations xs)) (sym (f .place))) in
               rw (q .lines, l, nth-drop (declarations xs) m (f .it) there, f .is) (
-                some-bytes (schemaName (f .it .path)) (itemName (f .it .path)) _ stop before after P,
+                some-bytes (schemaName (f .it .path) .bytes) (itemName (f .it .path) .bytes) _ stop before after P,
                 P,
                 record { ready = q .ready; lines = rw (add-one m) refl },
               );

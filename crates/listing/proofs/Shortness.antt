@@ -7,8 +7,8 @@ use native.Mathlib.Omega.{arith}
 use borrow.Author.Tests.{eqb-true, leb-true}
 use lib.Dec.{eqb, leb}
 use lib.ListN.{length}
-use Rattle.complex_entity.specs.MeaningSets.{_∈_}
-use Rattle.complex_entity.specs.MeaningSets._∈_.{here, there}
+use Rattle.complex_entity.specs.MeaningRising.{_∈_}
+use Rattle.complex_entity.specs.MeaningRising._∈_.{here, there}
 use Rattle.grammar.specs.MeaningReading.{Reading}
 use Rattle.sheet.specs.MeaningName.{Name, isName}
 use Rattle.grammar.specs.MeaningGrammar.{most-name-bytes, oneOf, kindOf}
@@ -77,7 +77,7 @@ module _ (rd : Reading) where
 -- ---- so of what schemas declare
 
 abbrev DeclarationFew : Declaration → Type 0
-DeclarationFew d = Few (schemaName (d .path)) × Few (itemName (d .path))
+DeclarationFew d = Few (schemaName (d .path) .bytes) × Few (itemName (d .path) .bytes)
 
 pub all-append : {A : Type 0} (P : A → Type 0) (xs ys : List A) → All P xs → All P ys → All P (xs ++ ys)
 all-append P [] ys a b = b
@@ -111,6 +111,6 @@ entries-few n (x ∷ xs) h =
     (numbered-few x n (declaredBy x) (h .0 .0) (declared-few x (h .0)))
     (entries-few (n + length (declaredBy x)) xs (h .1))
 
-pub tree-few : (rd : Reading) (t : Tree) → Right rd 0 (bare t) → (d : Declaration) → d ∈ declarations (schemasOf t) → Few (schemaName (d .path)) × Few (itemName (d .path))
+pub tree-few : (rd : Reading) (t : Tree) → Right rd 0 (bare t) → (d : Declaration) → d ∈ declarations (schemasOf t) → Few (schemaName (d .path) .bytes) × Few (itemName (d .path) .bytes)
 unfolding declarations
 tree-few rd t h d m = all-in DeclarationFew (allOf (entriesFrom 0 (schemasOf t))) (entries-few 0 (schemasOf t) (schemas-few rd t h)) d m

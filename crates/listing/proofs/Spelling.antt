@@ -7,8 +7,8 @@ use Prim.Native.Nat.{ℕ, zero, suc, _+_, _≤_}
 use native.Mathlib.Omega.{arith}
 use lib.ListN.{length, getElem?}
 use Rattle.refusal.specs.MeaningAnswer.{Answer}
-use Rattle.complex_entity.specs.MeaningSets.{_∈_}
-use Rattle.complex_entity.specs.MeaningSets._∈_.{here, there}
+use Rattle.complex_entity.specs.MeaningRising.{_∈_}
+use Rattle.complex_entity.specs.MeaningRising._∈_.{here, there}
 use Rattle.sheet.specs.MeaningName.{Name}
 use Rattle.grammar.specs.MeaningGrammar.{most-name-bytes}
 use Rattle.grammar.proofs.Choosing.{clash}
@@ -63,12 +63,12 @@ module _ (s : List ℕ) (index : ℕ) (o : Declared) (w : StandsAt s (declaratio
 
     schema-is : its .schema ≡ nameOf (treeAt s x y) .bytes
     unfolding namesOf namesAt schemaName outermost pathIn scopeIn schemaOf
-    schema-is = ap (λ (d : Option Declaration). namesAt d .schema) (it-stands .there) ∙ ap schemaName (it-stands .path-is)
+    schema-is = ap (λ (d : Option Declaration). namesAt d .schema) (it-stands .there) ∙ ap (λ p. schemaName p .bytes) (it-stands .path-is)
 
     item-is : its .item ≡ nameOf (treeAt s a b) .bytes
     unfolding namesOf namesAt itemName pathIn
     item-is =
-        ap (λ (d : Option Declaration). namesAt d .item) (it-stands .there) ∙ ap itemName (it-stands .path-is)
+        ap (λ (d : Option Declaration). namesAt d .item) (it-stands .there) ∙ ap (λ p. itemName p .bytes) (it-stands .path-is)
         ∙ ap (λ (n : Name). n .bytes) (item-named t (it-stands .place) (treeAt s a b))
 
     module _ (v : Span) where

@@ -10,7 +10,7 @@ use borrow.Author.Tests.{eq-eqb, ne-eqb}
 use lib.ListN.{length, drop, getElem?}
 use Rattle.refusal.specs.MeaningAnswer.{Answer, refused}
 use Rattle.refusal.specs.declared.Refusal.{Refusal}
-use Rattle.complex_entity.specs.MeaningSets.{_∈_}
+use Rattle.complex_entity.specs.MeaningRising.{_∈_}
 use Rattle.grammar.specs.MeaningReading.{Reading}
 use Rattle.grammar.proofs.Choosing.{clash}
 use Rattle.schemas.specs.MeaningTree.{treeAt}
@@ -161,7 +161,7 @@ own : (xs : List Schema) (d : Declaration) → d ∈ declarations xs → Own d
 unfolding declarations
 own xs d m = all-in Own (allOf (entriesFrom 0 xs)) (entries-own 0 xs) d m
 
-type-path : (rd : Reading) (xs : List Schema) (d : Declaration) (t : TypeDecl) → d ∈ declarations xs → d .named ≡ a-type t → samePath rd (d .path) (pathTo (schemaName (d .path)) type (itemName (d .path))) ≡ true
+type-path : (rd : Reading) (xs : List Schema) (d : Declaration) (t : TypeDecl) → d ∈ declarations xs → d .named ≡ a-type t → samePath rd (d .path) (pathTo (schemaName (d .path) .bytes) type (itemName (d .path) .bytes)) ≡ true
 unfolding schemaName outermost itemName pathIn scopeIn itemOf
 type-path rd xs d t m e =
     let o = own xs d m in
@@ -171,11 +171,11 @@ type-path rd xs d t m e =
 module _ (rd : Reading) (s : List ℕ) (index : ℕ) (v w : Span) (f : Spells s (namesOf (schemasIn s) index .schema) v) (g : Spells s (namesOf (schemasIn s) index .item) w)
     (a b : List ℕ) (k : a ≡ bytesAt s v) (l : b ≡ bytesAt s w) where
   module _ (d : Declaration) (e : getElem? (declarations (schemasIn s)) index ≡ some d) where
-    schema-its : a ≡ schemaName (d .path)
+    schema-its : a ≡ schemaName (d .path) .bytes
     unfolding namesOf namesAt
     schema-its = k ∙ f .there ∙ ap (λ (o : Option Declaration). namesAt o .schema) e
 
-    item-its : b ≡ itemName (d .path)
+    item-its : b ≡ itemName (d .path) .bytes
     unfolding namesOf namesAt
     item-its = l ∙ g .there ∙ ap (λ (o : Option Declaration). namesAt o .item) e
 
@@ -183,7 +183,7 @@ module _ (rd : Reading) (s : List ℕ) (index : ℕ) (v w : Span) (f : Spells s 
       → ((walked : Path → Answer Bool) → AllWalked rd s walked → (p : Path) → samePath rd p (pathTo a type b) ≡ true → toldFlags o ≡ flagsOf rd (schemasIn s) walked p)
       → Puts (typeLine a b (toldFlags o)) at r x y
       → (walked : Path → Answer Bool) → AllWalked rd s walked → (d : Declaration) (t : TypeDecl) → getElem? (declarations (schemasIn s)) index ≡ some d → d .named ≡ a-type t
-      → Puts (typeLine (schemaName (d .path)) (itemName (d .path)) (flagsOf rd (schemasIn s) walked (d .path))) at r x y
+      → Puts (typeLine (schemaName (d .path) .bytes) (itemName (d .path) .bytes) (flagsOf rd (schemasIn s) walked (d .path))) at r x y
   puts-type at r x y o c p walked W d t e i =
       let z = type-path rd (schemasIn s) d t (nth-there (declarations (schemasIn s)) index d e) i in
       let j : toldFlags o ≡ flagsOf rd (schemasIn s) walked (d .path) = c walked W (d .path) (rw (schema-its d e, item-its d e) z) in

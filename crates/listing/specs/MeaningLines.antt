@@ -17,7 +17,7 @@ pub record Names : Type 0 where
 
 unfoldable pub namesAt : Option Declaration → Names
 namesAt none = record { schema = []; item = [] }
-namesAt (some d) = record { schema = schemaName (d .path); item = itemName (d .path) }
+namesAt (some d) = record { schema = schemaName (d .path) .bytes; item = itemName (d .path) .bytes }
 
 module _ (xs : List Schema) where
   unfoldable pub namesOf : ℕ → Names
@@ -40,4 +40,4 @@ module _ (xs : List Schema) where
 
   -- "`supertype`, path, count, then .."
   unfoldable pub listLines : Path → Answer (List Part) → List (List ℕ)
-  listLines p o = supertypeLine (schemaName p) (itemName p) (mapped length o) ∷ partsOf o
+  listLines p o = supertypeLine (schemaName p .bytes) (itemName p .bytes) (mapped length o) ∷ partsOf o

@@ -29,7 +29,7 @@ module _ (rd : Reading) (xs : List Schema) (walked : Path → Answer Bool) where
   flagsOf p = mapped (λ b. (b, isEnumeration rd xs (declarationFor rd xs p))) (walked p)
 
   unfoldable pub typeLinesOf : Path → Named → List (List ℕ)
-  typeLinesOf p (a-type t) = typeLine (schemaName p) (itemName p) (flagsOf p) ∷ []
+  typeLinesOf p (a-type t) = typeLine (schemaName p .bytes) (itemName p .bytes) (flagsOf p) ∷ []
   typeLinesOf p (an-entity e) = []
 
   unfoldable pub typeLines : List Declaration → List (List ℕ)

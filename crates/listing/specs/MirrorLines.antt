@@ -5,7 +5,7 @@ use mathlib.Core.List.{List, [], _∷_}
 use mathlib.Core.Option.{some}
 use lib.ListN.{length, take, drop, getD, getElem?}
 use Rattle.refusal.specs.MeaningAnswer.{Answer}
-use Rattle.complex_entity.specs.MeaningSets.{_∈_}
+use Rattle.complex_entity.specs.MeaningRising.{_∈_}
 use Rattle.complex_entity.specs.MeaningParts.{most-names}
 use Rattle.grammar.specs.MeaningGrammar.{most-name-bytes}
 use Rattle.schemas.specs.MeaningSchemas.{TypeDecl, Schema}
@@ -23,7 +23,7 @@ most-line = 800
 
 -- every declaration's names have at most 32 bytes
 abbrev pub Short : List ℕ → Type 0
-Short s = (d : Declaration) → d ∈ declarations (schemasIn s) → (length (schemaName (d .path)) ≤ most-name-bytes) × (length (itemName (d .path)) ≤ most-name-bytes)
+Short s = (d : Declaration) → d ∈ declarations (schemasIn s) → (length (schemaName (d .path) .bytes) ≤ most-name-bytes) × (length (itemName (d .path) .bytes) ≤ most-name-bytes)
 
 -- the bytes from one place to another
 abbrev pub bytesAt : List ℕ → Span → List ℕ

@@ -243,7 +243,7 @@ pub fn type_line_of(
 ) -> usize
     requires { ⌜ IsType (schemasIn (now sheet)) number ⌝ }
     requires { ⌜ Short (now sheet) × (length (now sheet) ≤ 65535) × Noted (now sheet) (now names) × (100 ≤ length (now out)) ⌝ }
-    ensures { λ r. ⌜ ((walked : meaning.Path → Answer Bool) → AllWalked (toldReading reading) (now (sheet .entry)) walked → (d : Declaration) (t : TypeDecl) → getElem? (declarations (schemasIn (now (sheet .entry)))) number ≡ some d → d .named ≡ a-type t → Puts (typeLine (schemaName (d .path)) (itemName (d .path)) (flagsOf (toldReading reading) (schemasIn (now (sheet .entry))) walked (d .path))) 0 r (now (out .entry)) (now (out .exit))) ⌝ }
+    ensures { λ r. ⌜ ((walked : meaning.Path → Answer Bool) → AllWalked (toldReading reading) (now (sheet .entry)) walked → (d : Declaration) (t : TypeDecl) → getElem? (declarations (schemasIn (now (sheet .entry)))) number ≡ some d → d .named ≡ a-type t → Puts (typeLine (schemaName (d .path) .bytes) (itemName (d .path) .bytes) (flagsOf (toldReading reading) (schemasIn (now (sheet .entry))) walked (d .path))) 0 r (now (out .entry)) (now (out .exit))) ⌝ }
 {
     let here = names_of(sheet, names, number);
     let schema = bytes_at(sheet, here.schema);

@@ -1,6 +1,6 @@
 -- Where the names of the declaration with an index stand, and so the questions of `as_path`.
 use mathlib.Core.Path.{_≡_, refl, sym, ap, _∙_, subst}
-use mathlib.Core.List.{List, [], _∷_}
+use mathlib.Core.List.{List, []}
 use mathlib.Core.Option.{Option}
 use mathlib.Core.Bool.{true}
 use Prim.Native.Nat.{ℕ, _-_, _≤_}
@@ -10,8 +10,9 @@ use Rattle.refusal.specs.Told.{toldRefusal}
 use Rattle.refusal.specs.declared.Refusal.{Refusal}
 use Rattle.grammar.specs.MeaningReading.{Reading}
 use Rattle.schemas.specs.MeaningTree.{treeAt}
-use Rattle.schemas.specs.MeaningSchemas.{noName, nameOf, schemaOf}
-use Rattle.scope.specs.MeaningScope.{Scope, Path}
+use Rattle.sheet.specs.MeaningName.{Name}
+use Rattle.schemas.specs.MeaningSchemas.{nameOf, schemaOf}
+use Rattle.scope.specs.MeaningScope.{Path}
 use Rattle.query.specs.declared.Verdict.{Verdict}
 use Rattle.query.specs.declared.Verdict.the-variants as verdict
 use Rattle.lookup.specs.MirrorLookup.{spanOf, Lies}
@@ -24,7 +25,7 @@ use Rattle.declarations.proofs.Standing.{item-named}
 use Rattle.namespace.specs.MeaningOrder.{Answers}
 use Rattle.namespace.specs.Told.{toldVerdict}
 use Rattle.namespace.specs.Promises.{Asked, partOf, Promise-part, Promise-path}
-use Rattle.namespace.specs.MirrorNames.{outerName, nameIn, Spells, NameStands}
+use Rattle.namespace.specs.MirrorNames.{nameIn, NameSpells, NameStands}
 use Rattle.namespace.specs.declared.PathName.{PathName}
 use Rattle.namespace.specs.declared.PathName.the-variants.{Schema, Item}
 use Rattle.namespace.specs.declared.NamePlace.{NamePlace}
@@ -73,13 +74,13 @@ module _ (rd : Reading) (s : List ℕ) (index : ℕ) (r : Verdict) (c : Answers 
 
       module _ (which : PathName) (v : Span) where
         pub schema-placed : which ≡ Schema → v ≡ spanOf (nameOf (treeAt s x y)) → Lies s (nameOf (treeAt s x y)) → NameStands rd s index which (At v)
-        unfolding nameIn outerName pathIn scopeIn schemaOf
+        unfolding nameIn schemaName outermost pathIn scopeIn schemaOf
         schema-placed h k l =
             let z : nameIn which (it-stands .it .path) ≡ nameOf (treeAt s x y) = rw h (ap (nameIn Schema) (it-stands .path-is)) in
             record { path = it-stands .it .path; asked = path-of; spans = k ∙ ap spanOf (sym z); lies = subst (Lies s) (sym z) l }
 
         pub item-placed : which ≡ Item → v ≡ spanOf (nameOf (treeAt s a b)) → Lies s (nameOf (treeAt s a b)) → NameStands rd s index which (At v)
-        unfolding nameIn pathIn
+        unfolding nameIn itemName pathIn
         item-placed h k l =
             let z : nameIn which (it-stands .it .path) ≡ nameOf (treeAt s a b) = rw h (ap (nameIn Item) (it-stands .path-is) ∙ item-named t (it-stands .place) (treeAt s a b)) in
             record { path = it-stands .it .path; asked = path-of; spans = k ∙ ap spanOf (sym z); lies = subst (Lies s) (sym z) l }
@@ -88,25 +89,12 @@ pub ruleset placing = (place-refused, place-undeclared, schema-order, schema-in,
 
 -- ---- the questions, by where the name stands
 
-outer-bytes : (sc : Scope) → outerName sc .bytes ≡ outermost sc
-unfolding outerName outermost noName
-outer-bytes [] = refl
-outer-bytes (x ∷ xs) = refl
-
-pub schema-bytes : (p : Path) → nameIn Schema p .bytes ≡ schemaName p
-unfolding nameIn schemaName
-schema-bytes p = outer-bytes (p .scope)
-
-pub item-bytes : (p : Path) → nameIn Item p .bytes ≡ itemName p
-unfolding nameIn itemName
-item-bytes p = refl
-
 module _ (rd : Reading) (s : List ℕ) (index : ℕ) (which : PathName) (r : NamePlace) (f : NameStands rd s index which r) where
   module _ (why : Refusal) (e : r ≡ Refused why) where
     unasked : Asked rd s index (toldRefusal why)
     unasked = subst (NameStands rd s index which) e f
 
-    pub part-refused : (name : Path → List ℕ) → Promise-part name rd s index []
+    pub part-refused : (name : Path → Name) → Promise-part name rd s index []
     unfolding Promise-part partOf
     part-refused name = (toldRefusal why, unasked, refl)
 
@@ -115,7 +103,7 @@ module _ (rd : Reading) (s : List ℕ) (index : ℕ) (which : PathName) (r : Nam
     path-refused = (toldRefusal why, unasked, refl)
 
   module _ (v : Span) (e : r ≡ At v) where
-    spells : Spells rd s index which v
+    spells : NameSpells rd s index which v
     spells = subst (NameStands rd s index which) e f
 
     pub name-order : v .start ≤ v .stop
@@ -128,14 +116,16 @@ module _ (rd : Reading) (s : List ℕ) (index : ℕ) (which : PathName) (r : Nam
     unfolding Promise-path toldVerdict
     path-declared = (done (spells .path), spells .asked, refl)
 
-    named : (name : Path → List ℕ) → ((p : Path) → nameIn which p .bytes ≡ name p) → Promise-part name rd s index (take (v .stop - v .start) (drop (v .start) s))
+    named : Promise-part (nameIn which) rd s index (take (v .stop - v .start) (drop (v .start) s))
     unfolding Promise-part partOf
-    named name h = (done (spells .path), spells .asked, span-bytes s (nameIn which (spells .path)) v (spells .spans) (spells .lies) ∙ h (spells .path))
+    named = (done (spells .path), spells .asked, span-bytes s (nameIn which (spells .path)) v (spells .spans) (spells .lies))
 
 pub schema-named : (rd : Reading) (s : List ℕ) (index : ℕ) (r : NamePlace) → NameStands rd s index Schema r → (v : Span) → r ≡ At v → Promise-part schemaName rd s index (take (v .stop - v .start) (drop (v .start) s))
-schema-named rd s index r f v e = named rd s index Schema r f v e schemaName schema-bytes
+unfolding nameIn
+schema-named rd s index r f v e = named rd s index Schema r f v e
 
 pub item-named-so : (rd : Reading) (s : List ℕ) (index : ℕ) (r : NamePlace) → NameStands rd s index Item r → (v : Span) → r ≡ At v → Promise-part itemName rd s index (take (v .stop - v .start) (drop (v .start) s))
-item-named-so rd s index r f v e = named rd s index Item r f v e itemName item-bytes
+unfolding nameIn
+item-named-so rd s index r f v e = named rd s index Item r f v e
 
 pub ruleset telling = (part-refused, path-refused, name-order, name-in, path-declared, schema-named, item-named-so)

@@ -1,13 +1,13 @@
 -- Where a name of a declaration's path stands in the sheet.
 use Prim.Native.Nat.{ℕ}
 use mathlib.Core.Path.{_≡_}
-use mathlib.Core.List.{List, [], _∷_}
+use mathlib.Core.List.{List}
 use Rattle.refusal.specs.MeaningAnswer.{done}
 use Rattle.refusal.specs.Told.{toldRefusal}
 use Rattle.grammar.specs.MeaningReading.{Reading}
 use Rattle.sheet.specs.MeaningName.{Name}
-use Rattle.schemas.specs.MeaningSchemas.{noName}
-use Rattle.scope.specs.MeaningScope.{Scope, Path}
+use Rattle.scope.specs.MeaningScope.{Path}
+use Rattle.declarations.specs.MeaningNamespace.{schemaName, itemName}
 use Rattle.lookup.specs.MirrorLookup.{spanOf, Lies}
 use Rattle.lookup.specs.declared.Span.{Span}
 use Rattle.namespace.specs.Promises.{Asked}
@@ -16,17 +16,12 @@ use Rattle.namespace.specs.declared.PathName.the-variants.{Schema, Item}
 use Rattle.namespace.specs.declared.NamePlace.{NamePlace}
 use Rattle.namespace.specs.declared.NamePlace.the-variants.{At, Refused}
 
--- the name of the outermost step
-unfoldable pub outerName : Scope → Name
-outerName [] = noName
-outerName (x ∷ xs) = x .name
-
 unfoldable pub nameIn : PathName → Path → Name
-nameIn Schema p = outerName (p .scope)
-nameIn Item p = p .item .name
+nameIn Schema p = schemaName p
+nameIn Item p = itemName p
 
 -- the name of the path with the index stands in the span
-pub record Spells (rd : Reading) (s : List ℕ) (i : ℕ) (which : PathName) (v : Span) : Type 0 where
+pub record NameSpells (rd : Reading) (s : List ℕ) (i : ℕ) (which : PathName) (v : Span) : Type 0 where
   pub path : Path
   pub asked : Asked rd s i (done path)
   pub spans : v ≡ spanOf (nameIn which path)
@@ -34,5 +29,5 @@ pub record Spells (rd : Reading) (s : List ℕ) (i : ℕ) (which : PathName) (v 
 
 -- or there is no such path, and why
 abbrev pub NameStands : Reading → List ℕ → ℕ → PathName → NamePlace → Type 0
-NameStands rd s i which (At v) = Spells rd s i which v
+NameStands rd s i which (At v) = NameSpells rd s i which v
 NameStands rd s i which (Refused why) = Asked rd s i (toldRefusal why)

@@ -5,6 +5,7 @@ use mathlib.Core.List.{List, []}
 use mathlib.Core.Bool.{true}
 use Rattle.refusal.specs.MeaningAnswer.{Answer, done, refused, mapped}
 use Rattle.grammar.specs.MeaningReading.{Reading}
+use Rattle.sheet.specs.MeaningName.{Name}
 use Rattle.scope.specs.MeaningScope.{Path}
 use Rattle.query.specs.MeaningQuery.{resolveQuery, pathQuery}
 use Rattle.query.specs.declared.Verdict.{Verdict}
@@ -28,12 +29,12 @@ Promise-get rd s q r = Answers rd s true (pathQuery q) (getOf rd (schemasIn s)) 
 unfoldable pub Asked : Reading → List ℕ → ℕ → Answer Path → Type 0
 Asked rd s i o = Answers rd s true (done i) (pathAt (schemasIn s)) o
 
-unfoldable pub partOf : (Path → List ℕ) → Answer Path → List ℕ
-partOf name (done p) = name p
+unfoldable pub partOf : (Path → Name) → Answer Path → List ℕ
+partOf name (done p) = name p .bytes
 partOf name (refused n place) = []
 
 -- `schema_name` and `item_name`
-unfoldable pub Promise-part : (Path → List ℕ) → Reading → List ℕ → ℕ → List ℕ → Type 0
+unfoldable pub Promise-part : (Path → Name) → Reading → List ℕ → ℕ → List ℕ → Type 0
 Promise-part name rd s i b = (o : Answer Path) × Asked rd s i o × (b ≡ partOf name o)
 
 -- `as_path`

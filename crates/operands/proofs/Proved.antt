@@ -8,7 +8,7 @@ use native.Mathlib.Nat.{not-suc-le-zero}
 use lib.ListN.{length, take, drop, length-drop, take-append-drop}
 use lib.Seq.{drop-drop, drop-at, take-all}
 use Rattle.refusal.specs.MeaningAnswer.{Answer, done, refused}
-use Rattle.complex_entity.specs.MeaningSets.{here, there}
+use Rattle.complex_entity.specs.MeaningRising.{here, there}
 use Rattle.complex_entity.specs.MeaningParts.{Part}
 use Rattle.complex_entity.specs.MeaningRows.{rowOf, flat}
 use Rattle.complex_entity.specs.MirrorParts.{partAt}

@@ -8,7 +8,7 @@ use lib.ListN.{length, getD, take, drop, replicate, length-drop, take-append-dro
 use lib.Seq.{drop-drop, drop-append-seam, length-take-le}
 use lib.Dec.{leb, ltb, eqb}
 use borrow.Author.Tests.{leb-true, ltb-true, eqb-true, le-leb, lt-ltb, eq-eqb}
-use Rattle.complex_entity.specs.MeaningSets.{_∈_, here, there, Rising, empty, next}
+use Rattle.complex_entity.specs.MeaningRising.{_∈_, here, there, Rising, empty, next}
 use Rattle.complex_entity.specs.MeaningParts.{Part, last-index}
 use Rattle.complex_entity.specs.MeaningRows.{rowOf}
 use Rattle.complex_entity.specs.MirrorParts.{partAt}

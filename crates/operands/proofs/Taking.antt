@@ -11,7 +11,7 @@ use lib.Seq.{drop-drop, take-add, take-at}
 use lib.Dec.{leb, ltb}
 use borrow.Author.Tests.{leb-true, leb-false, lt-ltb}
 use Rattle.refusal.specs.MeaningAnswer.{Answer, done, refused, mapped}
-use Rattle.complex_entity.specs.MeaningSets.{_∈_, here, there}
+use Rattle.complex_entity.specs.MeaningRising.{_∈_, here, there}
 use Rattle.complex_entity.specs.MeaningParts.{Part}
 use Rattle.complex_entity.specs.MeaningLists.{most-parts}
 use Rattle.complex_entity.specs.MeaningRows.{rowOf, flat}

@@ -5,7 +5,7 @@ use mathlib.Core.List.{List, [], _∷_, _++_}
 use Prim.Native.Nat.{ℕ, _*_, _≤_, _<_, compare}
 use lib.ListN.{length, take, drop}
 use Rattle.refusal.specs.MeaningAnswer.{done, refused}
-use Rattle.complex_entity.specs.MeaningSets.{_∈_, Rising}
+use Rattle.complex_entity.specs.MeaningRising.{_∈_, Rising}
 use Rattle.complex_entity.specs.MeaningParts.{Part, most-names, last-index}
 use Rattle.complex_entity.specs.MeaningLists.{most-parts}
 use Rattle.complex_entity.specs.MeaningRows.{rowOf, flat}

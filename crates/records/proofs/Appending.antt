@@ -57,7 +57,7 @@ append-none used w = appends [] refl (omega arith) (sym (append-nil (take used w
 
 -- ---- how long and how high what is resolved is
 
-module _ (means : Scope → Name → Answer ℕ) (itself : Schema → Entity → ℕ) (sc : Scope) where
+module _ (means : Scope → Name → Answer ℕ) (sc : Scope) where
   any : (a : Answer ℕ) → Follows (λ (n : ℕ). n) (λ n. Unit {0}) a a
   any (done n) = has tt refl
   any (refused n p) = has-not refl
@@ -65,16 +65,16 @@ module _ (means : Scope → Name → Answer ℕ) (itself : Schema → Entity →
   mutual
     unfolding resolvedExpr flat size height level
 
-    pub expr-sized : (e : Expr Name) → Follows (λ (d : Expr ℕ). d) (λ d. (length (flat d) ≡ 3 * size e) × (height d ≡ level e)) (resolvedExpr eqb means itself sc e) (resolvedExpr eqb means itself sc e)
+    pub expr-sized : (e : Expr Name) → Follows (λ (d : Expr ℕ). d) (λ d. (length (flat d) ≡ 3 * size e) × (height d ≡ level e)) (resolvedExpr means sc e) (resolvedExpr means sc e)
     expr-sized (reference x) = follow-by reference reference (any (means sc x)) (λ n g. ((refl, refl), refl))
     expr-sized (andor t) = follow-by andor andor (terms-sized t) (λ u g. ((omega arith, omega arith), refl))
     expr-sized («and» t) = follow-by «and» «and» (terms-sized t) (λ u g. ((omega arith, omega arith), refl))
     expr-sized (oneof t) = follow-by oneof oneof (terms-sized t) (λ u g. ((omega arith, omega arith), refl))
 
-    pub terms-sized : (t : Terms Name) → Follows (λ (u : Terms ℕ). u) (λ u. (length (flats u) ≡ 3 * sizes t) × (heights u ≡ levels t)) (resolvedTerms eqb means itself sc t) (resolvedTerms eqb means itself sc t)
+    pub terms-sized : (t : Terms Name) → Follows (λ (u : Terms ℕ). u) (λ u. (length (flats u) ≡ 3 * sizes t) × (heights u ≡ levels t)) (resolvedTerms means sc t) (resolvedTerms means sc t)
     terms-sized end = has (refl, refl) refl
     terms-sized (e then t) =
-        follow-bind (λ d. mapped (λ u. d then u) (resolvedTerms eqb means itself sc t)) (expr-sized e)
+        follow-bind (λ d. mapped (λ u. d then u) (resolvedTerms means sc t)) (expr-sized e)
         (λ d g. follow-by (λ u. d then u) (λ u. d then u) (terms-sized t) (λ u h. ((omega (arith, length-append (flat d) (flats u)), rw (g .1, h .1) refl), refl)))
 
 -- ---- terms
@@ -82,7 +82,7 @@ module _ (means : Scope → Name → Answer ℕ) (itself : Schema → Entity →
 module _ (rd : Reading) (xs : List Schema) (w : List ℕ) where
   pub expr-length : (e : Expr Name) (l : List ℕ) → exprNumbers rd xs w e ≡ done l → length l ≡ 3 * size e
   unfolding exprNumbers
-  expr-length e l q = by (expr-sized (numberMeant rd xs) (ownNumber rd xs) (schemaScope w) e) q
+  expr-length e l q = by (expr-sized (numberMeant rd xs) (schemaScope w) e) q
     where
       by : {a b : Answer (Expr ℕ)} → Follows (λ (d : Expr ℕ). d) (λ d. (length (flat d) ≡ 3 * size e) × (height d ≡ level e)) a b → mapped flat a ≡ done l → length l ≡ 3 * size e
       by (has {g = d} g z) k = let y : flat d ≡ l = cc in rw (← y) (g .0)
@@ -90,7 +90,7 @@ module _ (rd : Reading) (xs : List Schema) (w : List ℕ) where
 
   pub terms-length : (t : Terms Name) (l : List ℕ) → termsNumbers rd xs w t ≡ done l → length l ≡ 3 * sizes t
   unfolding termsNumbers
-  terms-length t l q = by (terms-sized (numberMeant rd xs) (ownNumber rd xs) (schemaScope w) t) q
+  terms-length t l q = by (terms-sized (numberMeant rd xs) (schemaScope w) t) q
     where
       by : {a b : Answer (Terms ℕ)} → Follows (λ (u : Terms ℕ). u) (λ u. (length (flats u) ≡ 3 * sizes t) × (heights u ≡ levels t)) a b → mapped flats a ≡ done l → length l ≡ 3 * sizes t
       by (has {g = u} g z) k = let y : flats u ≡ l = cc in rw (← y) (g .0)
@@ -98,7 +98,7 @@ module _ (rd : Reading) (xs : List Schema) (w : List ℕ) where
 
   pub terms-first : (e : Expr Name) (t : Terms Name) → termsNumbers rd xs w (e then t) ≡ (exprNumbers rd xs w e >>= λ l. mapped (λ j. l ++ j) (termsNumbers rd xs w t))
   unfolding termsNumbers exprNumbers resolvedTerms flats
-  terms-first e t = by (resolvedExpr eqb (numberMeant rd xs) (ownNumber rd xs) (schemaScope w) e) (resolvedTerms eqb (numberMeant rd xs) (ownNumber rd xs) (schemaScope w) t)
+  terms-first e t = by (resolvedExpr (numberMeant rd xs) (schemaScope w) e) (resolvedTerms (numberMeant rd xs) (schemaScope w) t)
     where
       by : (a : Answer (Expr ℕ)) (b : Answer (Terms ℕ)) → mapped flats (a >>= λ d. mapped (λ u. d then u) b) ≡ (mapped flat a >>= λ l. mapped (λ j. l ++ j) (mapped flats b))
       by (done d) (done u) = refl

@@ -4,7 +4,7 @@ use mathlib.Core.Path.{_≡_}
 use mathlib.Core.List.{List, [], _∷_}
 use mathlib.Core.Option.{some}
 use lib.ListN.{getElem?}
-use Rattle.complex_entity.specs.MeaningSets.{_∈_, here, there}
+use Rattle.complex_entity.specs.MeaningRising.{_∈_, here, there}
 use Rattle.grammar.specs.MeaningReading.{Reading}
 use Rattle.grammar.proofs.Choosing.{clash}
 use Rattle.scope.specs.MeaningScope.{Path}

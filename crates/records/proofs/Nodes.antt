@@ -75,18 +75,18 @@ module _ (rd : Reading) (xs : List Schema) (w s : List ℕ) (t a b : ℕ) where
 
   op-is : (t ≡ 0x50 → ⊥) → 0x50 ≤ t → t ≤ 0x53 → exprNumbers rd xs w (exprIn s t a b) ≡ mapped (noded (t - 0x50)) (termsNumbers rd xs w (termsOf (treeAt s a b)))
   unfolding exprNumbers termsNumbers resolvedExpr opOf flat
-  op-is q l h = ap (λ e. mapped flat (resolvedExpr eqb (numberMeant rd xs) (ownNumber rd xs) (schemaScope w) e)) (op-in s t a b q) ∙ by (tag-of 0x50 t l h) q (termsOf (treeAt s a b))
+  op-is q l h = ap (λ e. mapped flat (resolvedExpr (numberMeant rd xs) (schemaScope w) e)) (op-in s t a b q) ∙ by (tag-of 0x50 t l h) q (termsOf (treeAt s a b))
     where
       each-of : (f : Terms ℕ → Expr ℕ) (k : ℕ) → ((u : Terms ℕ) → flat (f u) ≡ noded k (flats u)) → (o : Answer (Terms ℕ)) → mapped flat (mapped f o) ≡ mapped (noded k) (mapped flats o)
       each-of f k g (done u) = ap done (g u)
       each-of f k g (refused n p) = refl
 
       by : {t : ℕ} → Tag 0x50 t → (t ≡ 0x50 → ⊥) → (u : Terms Name)
-          → mapped flat (resolvedExpr eqb (numberMeant rd xs) (ownNumber rd xs) (schemaScope w) (opOf t u)) ≡ mapped (noded (t - 0x50)) (mapped flats (resolvedTerms eqb (numberMeant rd xs) (ownNumber rd xs) (schemaScope w) u))
+          → mapped flat (resolvedExpr (numberMeant rd xs) (schemaScope w) (opOf t u)) ≡ mapped (noded (t - 0x50)) (mapped flats (resolvedTerms (numberMeant rd xs) (schemaScope w) u))
       by zeroth q u = absurd (q refl)
-      by first q u = each-of andor 1 (λ u. refl) (resolvedTerms eqb (numberMeant rd xs) (ownNumber rd xs) (schemaScope w) u)
-      by second q u = each-of «and» 2 (λ u. refl) (resolvedTerms eqb (numberMeant rd xs) (ownNumber rd xs) (schemaScope w) u)
-      by third q u = each-of oneof 3 (λ u. refl) (resolvedTerms eqb (numberMeant rd xs) (ownNumber rd xs) (schemaScope w) u)
+      by first q u = each-of andor 1 (λ u. refl) (resolvedTerms (numberMeant rd xs) (schemaScope w) u)
+      by second q u = each-of «and» 2 (λ u. refl) (resolvedTerms (numberMeant rd xs) (schemaScope w) u)
+      by third q u = each-of oneof 3 (λ u. refl) (resolvedTerms (numberMeant rd xs) (schemaScope w) u)
 
 -- ---- room and depth
 

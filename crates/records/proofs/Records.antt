@@ -134,11 +134,11 @@ module _ (e : Expr Name) (used : ℕ) (w₀ : List ℕ) (R : Room (size e) (leve
     pub rec-handed : (why : Refusal) → r ≡ Refused why → Kept (recordKept rd xs w p e) (toldFilled r) used w₀ w₁
     unfolding toldFilled recordKept exprNumbers
     rec-handed why q =
-        let o = unflat-not (resolvedExpr eqb (numberMeant rd xs) (ownNumber rd xs) (schemaScope w) e) (why .number) (why .place) (did-not A (why .number) (why .place) (ap toldFilled q)) in
+        let o = unflat-not (resolvedExpr (numberMeant rd xs) (schemaScope w) e) (why .number) (why .place) (did-not A (why .number) (why .place) (ap toldFilled q)) in
         rw q (kept-refused w₁ (R .front .list) (why .number) (why .place) (R .front .stands) (rw o refl))
 
     pub rec-made : (n : ℕ) → r ≡ To n → Kept (recordKept rd xs w p e) (toldFilled (To n)) used w₀ (set w₁ used p)
     unfolding toldFilled recordKept exprNumbers
-    rec-made n q = record-put used n p w₀ w₁ (R .front) before-end (resolvedExpr eqb (numberMeant rd xs) (ownNumber rd xs) (schemaScope w) e) (did A n (ap toldFilled q))
+    rec-made n q = record-put used n p w₀ w₁ (R .front) before-end (resolvedExpr (numberMeant rd xs) (schemaScope w) e) (did A n (ap toldFilled q))
 
 pub ruleset recording = (rec-deep, rec-there, rec-handed, rec-made)

@@ -19,12 +19,12 @@ use Rattle.schemas.specs.MeaningTree.Tree.{nil}
 use Rattle.schemas.specs.MeaningSchemas.{termsOf, firstOf, exprOf, markOf}
 use Rattle.expression.specs.MeaningExpression.{Expr}
 use Rattle.records.specs.MeaningResolving.{ruleOf}
-use Rattle.records.specs.MirrorRecords.{Meets, no-more, next, Spells, no-expr, there, givesRule}
+use Rattle.records.specs.MirrorRecords.{Meets, no-more, next, SpellsExpr, no-expr, there, givesRule}
 use Rattle.records.proofs.Seeking.{met, met-none, terms-sought, mark-sought, terms-front, rule-front}
 
 -- ---- the first of a value
 
-pub spelt-first : (s : List ℕ) (at e : ℕ) (h : Header) → e ≤ length s → Meets s at e 0x50 0x53 h → Spells s (exprOf (treeAt s at e)) h
+pub spelt-first : (s : List ℕ) (at e : ℕ) (h : Header) → e ≤ length s → Meets s at e 0x50 0x53 h → SpellsExpr s (exprOf (treeAt s at e)) h
 unfolding exprOf firstOf termsOf
 spelt-first s at e Passes l (no-more z) = no-expr (ap firstOf (terms-sought (treeAt s at e) ∙ ap termsOf z))
 spelt-first s at e (Field t a b) l (next m) =
@@ -47,7 +47,7 @@ gives code.the-variants.Rust t x q = q
 pub ruleset giving = (gives)
 
 module _ (rd : Reading) (s : List ℕ) (at e : ℕ) (h : Header) (m : Meets s at e 0x31 0x33 h) where
-  pub rule-unmarked : h ≡ Passes → Spells s (ruleOf rd (markOf (treeAt s at e))) Passes
+  pub rule-unmarked : h ≡ Passes → SpellsExpr s (ruleOf rd (markOf (treeAt s at e))) Passes
   unfolding markOf ruleOf
   rule-unmarked q = no-expr (ap (ruleOf rd) (mark-sought (treeAt s at e) ∙ ap markOf (met-none m q)) ∙ by rd)
     where
@@ -59,10 +59,10 @@ module _ (rd : Reading) (s : List ℕ) (at e : ℕ) (h : Header) (m : Meets s at
     rule-here = let x = met m t a b q in ap (ruleOf rd) (mark-sought (treeAt s at e) ∙ ap markOf (x .seeks)) ∙ rule-front s a b (omega (arith, x .behind)) (treeAt s b e) rd t (x .from) (x .to)
 
     module _ (x : Bool) (g : x ≡ givesRule rd t) where
-      pub rule-none : x ≡ false → Spells s (ruleOf rd (markOf (treeAt s at e))) Passes
+      pub rule-none : x ≡ false → SpellsExpr s (ruleOf rd (markOf (treeAt s at e))) Passes
       rule-none z = no-expr (rule-here ∙ rw (sym g ∙ z) refl)
 
-      pub rule-given : x ≡ true → (k : Header) → Spells s (exprOf (treeAt s a b)) k → Spells s (ruleOf rd (markOf (treeAt s at e))) k
-      rule-given z k w = subst (λ (o : Option (Expr Name)). Spells s o k) (sym (rule-here ∙ rw (sym g ∙ z) refl)) w
+      pub rule-given : x ≡ true → (k : Header) → SpellsExpr s (exprOf (treeAt s a b)) k → SpellsExpr s (ruleOf rd (markOf (treeAt s at e))) k
+      rule-given z k w = subst (λ (o : Option (Expr Name)). SpellsExpr s o k) (sym (rule-here ∙ rw (sym g ∙ z) refl)) w
 
 pub ruleset ruling = (rule-unmarked, rule-none, rule-given)

@@ -2,7 +2,6 @@
 use Prim.Native.Nat.{ℕ}
 use mathlib.Core.List.{List}
 use mathlib.Core.Option.{Option, none, some}
-use mathlib.Core.Bool.{Bool}
 use Rattle.refusal.specs.MeaningAnswer.{Answer, mapped, _>>=_, done}
 use Rattle.expression.specs.MeaningExpression.{Expr, Terms}
 use Rattle.expression.specs.MeaningExpression.Expr.{reference, andor, «and», oneof}
@@ -39,8 +38,8 @@ ruleOf rust (rule e) = some e
 ruleOf rust abstract-entity = none
 ruleOf rust (abstract-supertype o) = none
 
--- what names stand for is left open: when two are the same, what a name means in a scope, and what an entity is itself
-module _ {N : Type 0} (same : N → N → Bool) (means : Scope → Name → Answer N) (itself : Schema → Entity → N) where
+-- what a name means in a scope is left open
+module _ {N : Type 0} (means : Scope → Name → Answer N) where
   -- an expression with its names resolved, from left to right
   unfoldable mutual
     pub resolvedExpr : Scope → Expr Name → Answer (Expr N)

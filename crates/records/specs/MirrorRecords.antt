@@ -114,9 +114,9 @@ pub record Spelt (s : List ℕ) (o : Option (Expr Name)) (t a b : ℕ) : Type 0 
   pub within : b ≤ length s
 
 -- where an expression stands, if there is one
-pub data Spells (s : List ℕ) (o : Option (Expr Name)) : Header → Type 0 where
-  no-expr : o ≡ none → Spells s o Passes
-  there : {t a b : ℕ} → Spelt s o t a b → Spells s o (Field t a b)
+pub data SpellsExpr (s : List ℕ) (o : Option (Expr Name)) : Header → Type 0 where
+  no-expr : o ≡ none → SpellsExpr s o Passes
+  there : {t a b : ℕ} → Spelt s o t a b → SpellsExpr s o (Field t a b)
 
 -- which marks give a rule is the reading's
 unfoldable pub givesRule : Reading → ℕ → Bool
@@ -179,11 +179,11 @@ schemaNamed w = record { place = 0; name = wordOf w; types = []; entities = []; 
 
 module _ (rd : Reading) (xs : List Schema) where
   unfoldable pub exprNumbers : List ℕ → Expr Name → Answer (List ℕ)
-  exprNumbers w e = mapped flat (resolvedExpr eqb (numberMeant rd xs) (ownNumber rd xs) (schemaScope w) e)
+  exprNumbers w e = mapped flat (resolvedExpr (numberMeant rd xs) (schemaScope w) e)
 
   unfoldable pub termsNumbers : List ℕ → Terms Name → Answer (List ℕ)
-  termsNumbers w t = mapped flats (resolvedTerms eqb (numberMeant rd xs) (ownNumber rd xs) (schemaScope w) t)
+  termsNumbers w t = mapped flats (resolvedTerms (numberMeant rd xs) (schemaScope w) t)
 
   -- a record of this owner with the expression
   unfoldable pub recordKept : List ℕ → ℕ → Expr Name → List (Combined ℕ) → Answer (List (Combined ℕ))
-  recordKept w p e cs = resolvedExpr eqb (numberMeant rd xs) (ownNumber rd xs) (schemaScope w) e >>= λ d. done (behind cs p d)
+  recordKept w p e cs = resolvedExpr (numberMeant rd xs) (schemaScope w) e >>= λ d. done (behind cs p d)

@@ -9,7 +9,7 @@ ghost use Rattle.declarations.specs.MeaningNamespace.{schemasIn};
 ghost use Rattle.declarations.specs.MirrorNamespace.{schemaScope, LastSchemaOf};
 ghost use Rattle.declarations.specs.Told.{toldFound};
 ghost use Rattle.records.specs.MeaningResolving.{ruleOf};
-ghost use Rattle.records.specs.MirrorRecords.{size, sizes, level, levels, numberMeant, ownNumber, Meets, wordAt, exprIn, Spells, givesRule, toldFilled, Appends, Kept, Within, Deep, Room, schemaNamed, exprNumbers, termsNumbers, recordKept};
+ghost use Rattle.records.specs.MirrorRecords.{size, sizes, level, levels, numberMeant, ownNumber, Meets, wordAt, exprIn, SpellsExpr, givesRule, toldFilled, Appends, Kept, Within, Deep, Room, schemaNamed, exprNumbers, termsNumbers, recordKept};
 use declarations::Found;
 use declarations::LastSchema;
 use declarations::first_in;
@@ -58,7 +58,7 @@ pub fn next_field(sheet: &[u8], at: usize, end: usize, low: u8, high: u8) -> Hea
 // Where the first expression of a value stands.
 pub fn expr_at(sheet: &[u8], at: usize, end: usize) -> Header
     requires { ⌜ (at ≤ end) × (end ≤ length (now sheet)) ⌝ }
-    ensures { λ r. ⌜ Spells (now (sheet .entry)) (exprOf (treeAt (now (sheet .entry)) at end)) r ⌝ }
+    ensures { λ r. ⌜ SpellsExpr (now (sheet .entry)) (exprOf (treeAt (now (sheet .entry)) at end)) r ⌝ }
 {
     next_field(sheet, at, end, 0x50, 0x53)
 }
@@ -75,7 +75,7 @@ fn gives_rule(reading: Reading, tag: u8) -> bool
 // Where the expression of an entity's rule stands.
 pub fn rule_at(reading: Reading, sheet: &[u8], at: usize, end: usize) -> Header
     requires { ⌜ (at ≤ end) × (end ≤ length (now sheet)) ⌝ }
-    ensures { λ r. ⌜ Spells (now (sheet .entry)) (ruleOf (toldReading reading) (markOf (treeAt (now (sheet .entry)) at end))) r ⌝ }
+    ensures { λ r. ⌜ SpellsExpr (now (sheet .entry)) (ruleOf (toldReading reading) (markOf (treeAt (now (sheet .entry)) at end))) r ⌝ }
 {
     let Header::Field { tag, start, stop } = next_field(sheet, at, end, 0x31, 0x33) else {
         return Header::Passes;

@@ -6,7 +6,7 @@ use native.Mathlib.Omega.{arith}
 use native.Mathlib.Nat.{not-suc-le-zero}
 use lib.ListN.{length, getD, take, drop, length-append, take-append-drop}
 use lib.Seq.{take-at, drop-at, drop-drop, length-take-le}
-use Rattle.complex_entity.specs.MeaningSets.{here, there}
+use Rattle.complex_entity.specs.MeaningRising.{here, there}
 use Rattle.complex_entity.specs.MeaningParts.{Part}
 use Rattle.complex_entity.specs.MeaningRows.{rowOf, flat}
 use Rattle.complex_entity.specs.MirrorParts.{namesOf, partOf, partAt}

@@ -10,7 +10,7 @@ use mir.Val.{Fits}
 use borrow.Author.Needs.{fits-under}
 use lib.ListN.{length, getD, take, drop, take-append-drop}
 use lib.Seq.{slice, slice-cons, slice-empty, length-slice, take-length, drop-append-le, take-take, length-take-le}
-use Rattle.complex_entity.specs.MeaningSets.{here, Lt, View, less, same, more, Rising, empty, next}
+use Rattle.complex_entity.specs.MeaningRising.{here, Lt, View, less, same, more, Rising, empty, next}
 use Rattle.complex_entity.specs.MeaningParts.{Part, order}
 use Rattle.complex_entity.specs.MirrorParts.{partAt}
 use Rattle.complex_entity.specs.Told.{toldOrder}

@@ -6,7 +6,7 @@ use mathlib.Core.List.{List, [], _∷_, _++_}
 use native.Mathlib.Omega.{arith}
 use lib.ListN.{length, take, drop, take-append-drop}
 use lib.Seq.{take-all, take-suc, length-take-le}
-use Rattle.complex_entity.specs.MeaningSets.{_∈_, here, there, Lt, Rising, empty, next}
+use Rattle.complex_entity.specs.MeaningRising.{_∈_, here, there, Lt, Rising, empty, next}
 use Rattle.complex_entity.specs.MeaningParts.{Part, order}
 use Rattle.complex_entity.specs.MeaningLists.{add}
 use Rattle.complex_entity.specs.MirrorParts.{partAt}

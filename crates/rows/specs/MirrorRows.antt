@@ -3,7 +3,7 @@ use mathlib.Core.Path.{_≡_}
 use mathlib.Core.List.{List, [], _∷_, _++_}
 use Prim.Native.Nat.{ℕ, zero, suc, _*_, _≤_}
 use lib.ListN.{length, take, drop}
-use Rattle.complex_entity.specs.MeaningSets.{Rising}
+use Rattle.complex_entity.specs.MeaningRising.{Rising}
 use Rattle.complex_entity.specs.MeaningParts.{Part, order}
 use Rattle.complex_entity.specs.MeaningRows.{flat}
 use Rattle.complex_entity.specs.MirrorParts.{partAt}

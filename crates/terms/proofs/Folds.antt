@@ -9,7 +9,7 @@ use native.Mathlib.Omega.{arith}
 use lib.ListN.{length}
 use lib.Dec.{leb}
 use Rattle.refusal.specs.MeaningAnswer.{Answer, done, refused, orElse, _>>=_}
-use Rattle.complex_entity.specs.MeaningSets.{_∈_, here, there, Rising, empty, next}
+use Rattle.complex_entity.specs.MeaningRising.{_∈_, here, there, Rising, empty, next}
 use Rattle.complex_entity.specs.MeaningParts.{Part, order, single}
 use Rattle.complex_entity.specs.MeaningLists.{add, joins, bitand, held, prefixes, most-factors, oneofOf, andOf, andorOf}
 use Rattle.complex_entity.specs.MirrorLists.{grown, andorFrom}
