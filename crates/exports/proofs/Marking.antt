@@ -19,7 +19,7 @@ use Rattle.grammar.specs.MeaningReading.{Reading}
 use Rattle.sheet.specs.MeaningSheet.{Open, Stood, Wrong, Fault, Is}
 use Rattle.sheet.specs.MeaningSheet.Wrong.{passes, badTag, badSimple, full, missing, badName, limit, depth, forbidden}
 use Rattle.sheet.specs.MeaningSheet.Fault.{long, wrong}
-use Rattle.scope.specs.MeaningScope.{Step as ScopeStep, ScopeType, Scope, Path, samePath, most-steps, compared, stop}
+use Rattle.scope.specs.MeaningScope.{Step as ScopeStep, ScopeType, Scope, Path, sameKind, samePath, most-steps, compared, stop}
 use Rattle.query.specs.MeaningQuery.{stepsAt, wordAt, scopeQuery, pathFrom, pathOf, pathQuery, asked, resolveQuery, orderOf, Question}
 use Rattle.sheet.specs.MeaningName.{Name}
 use Rattle.grammar.proofs.Choosing.{clash}
@@ -35,7 +35,7 @@ use Rattle.records.specs.MeaningResolving.{ruleOf, resolvedExpr, resolvedTerms,
 use Rattle.gathering.specs.MeaningGathering.{through, supersOf, ruled, stepB, constrained, stepD, subtype, stepC, gather}
 use Rattle.gathering.specs.MeaningCombined.{supertypes, combined, numberedExpr, listOf}
 use Rattle.named_types.specs.MeaningWalk.{Step, ends, goes, bodyStep, namedStep, stepFrom, Walks}
-use Rattle.type_ref.specs.MeaningTypes.{byKind, fromPath}
+use Rattle.type_ref.specs.MeaningTypes.{entityAt, typeAt, byKind, fromPath}
 use Rattle.named_types.specs.MeaningWalk.Walks.{ended, failed, again}
 use Rattle.constraints.specs.MeaningQuestions.{isSome, isSupertype, askList, askNumber, askRow, askRowInto, askSupertype}
 use Rattle.declarations.specs.MeaningNamespace.{Named, a-type, an-entity, Declaration, scopeIn, declarations, declarationFor, resolved, answered, resolveOf, getOf, pathAt}
@@ -381,17 +381,10 @@ module _ (rd : Reading) (xs : List Schema) where
   walk-marked p w (again r u i e) = says 12 0
 
   pub type-own : (w : Answer Bool) (p : Path) → Marked w → Marked (fromPath rd xs w p)
-  unfolding fromPath byKind
-  type-own w p m = bind (supertypes rd xs) (λ g. byKind rd xs p w (p .item .kind)) (supertypes-marked rd xs) (λ g. by (p .item .kind))
+  unfolding fromPath byKind entityAt typeAt
+  type-own w p m = bind (supertypes rd xs) (λ g. byKind rd xs p w (p .item .kind)) (supertypes-marked rd xs) (λ g. by (sameKind (p .item .kind) ScopeType.entity) (sameKind (p .item .kind) ScopeType.type))
     where
-      by : (k : ScopeType) → Marked (byKind rd xs p w k)
-      by ScopeType.entity = map-marked _ (isSupertype rd xs p) (is-own rd xs p)
-      by ScopeType.type = map-marked _ w m
-      by ScopeType.alias = says 13 0
-      by ScopeType.function = says 13 0
-      by ScopeType.procedure = says 13 0
-      by ScopeType.query = says 13 0
-      by ScopeType.repeat = says 13 0
-      by ScopeType.rule = says 13 0
-      by ScopeType.schema = says 13 0
-      by ScopeType.subType = says 13 0
+      by : (a b : Bool) → Marked (cond a (entityAt rd xs p) (cond b (typeAt rd xs p w) (refused 14 0)))
+      by true b = map-marked _ (isSupertype rd xs p) (is-own rd xs p)
+      by false true = map-marked _ w m
+      by false false = says 13 0

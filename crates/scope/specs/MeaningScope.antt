@@ -52,8 +52,11 @@ pub record Path : Type 0 where
 
 -- ---- when two are equal, wherever their names stand
 
+abbrev pub sameKind : ScopeType → ScopeType → Bool
+sameKind k l = eqb (placeOf k) (placeOf l)
+
 unfoldable pub sameStep : Reading → Step → Step → Bool
-sameStep rd a b = eqb (placeOf (a .kind)) (placeOf (b .kind)) && sameName rd (a .name .bytes) (b .name .bytes)
+sameStep rd a b = sameKind (a .kind) (b .kind) && sameName rd (a .name .bytes) (b .name .bytes)
 
 unfoldable pub sameScope : Reading → Scope → Scope → Bool
 sameScope rd [] [] = true

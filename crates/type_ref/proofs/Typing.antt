@@ -4,6 +4,7 @@ use mathlib.Core.List.{List}
 use mathlib.Core.Bool.{Bool}
 use Prim.Native.Nat.{ℕ, _-_}
 use native.Mathlib.Omega.{arith}
+use borrow.Author.Tests.{ne-eqb}
 use lib.ListN.{length, getElem?}
 use Rattle.refusal.specs.MeaningAnswer.{Answer, done, refused, mapped}
 use Rattle.refusal.specs.declared.Refusal.{Refusal}
@@ -11,7 +12,6 @@ use Rattle.grammar.specs.MeaningReading.{Reading}
 use Rattle.schemas.specs.MeaningSchemas.{Schema}
 use Rattle.scope.specs.MeaningScope as meaning
 use Rattle.scope.specs.MeaningScope.{ScopeType, placeOf}
-use Rattle.scope.specs.MeaningScope.ScopeType.{entity, alias, function, procedure, query, repeat, rule, schema, subType, type}
 use Rattle.query.specs.MeaningQuery.{pathQuery}
 use Rattle.scope.specs.Told.{toldKind, toldStep, toldPath}
 use Rattle.scope.specs.Held.{pathIn}
@@ -31,7 +31,7 @@ use Rattle.named_types.specs.declared.Walked.{Walked}
 use Rattle.named_types.specs.declared.Walked.the-variants as walked
 use Rattle.named_types.proofs.Finding.{walks-nowhere, walks-there, enumerates-there}
 use Rattle.named_types.proofs.Proved.{walks-on}
-use Rattle.type_ref.specs.MeaningTypes.{an-entity-type, byKind}
+use Rattle.type_ref.specs.MeaningTypes.{an-entity-type, entityAt, typeAt, byKind}
 use Rattle.type_ref.specs.Told.{toldTypeRef}
 use Rattle.type_ref.specs.MirrorCode.{GivenPath, NamedAs, TypedAs}
 use Rattle.type_ref.specs.declared.TypeRef.{TypeRef}
@@ -47,10 +47,10 @@ module _ (rd : Reading) (s q : List ℕ) (x : Path) (v : Sought) (vv : v ≡ sou
   p = toldPath q x
 
   pub named-none : (n : ℕ) → v ≡ Past n → (why : Refusal) → why ≡ record { number = 7; place = 0 } → NamedAs rd (schemasIn s) q x (Refused why)
-  unfolding toldTypeRef byKind
+  unfolding toldTypeRef typeAt
   named-none n e why k = record { walked = refused 7 0; walks = walks-nowhere rd xs p v vv n e; is = tells; given = tt }
     where
-      tells : toldTypeRef q (Refused why) ≡ byKind rd xs p (refused 7 0) type
+      tells : toldTypeRef q (Refused why) ≡ typeAt rd xs p (refused 7 0)
       tells = rw k refl
 
   module _ (n : ℕ) (e : v ≡ At n) (k : Walked) (kk : toldWalked k ≡ walkedBy rd xs (length (declarations xs) - 1) n) where
@@ -58,59 +58,35 @@ module _ (rd : Reading) (s q : List ℕ) (x : Path) (v : Sought) (vv : v ≡ sou
     walks = walks-there rd xs p v vv n e k kk
 
     pub named-ends : (flag : Bool) → ((r : Reading) → flag ≡ isEnumeration r (schemasIn s) (getElem? (declarations (schemasIn s)) n)) → (b : Bool) → k ≡ walked.Ends b → NamedAs rd (schemasIn s) q x (Named (record { path = x; «is_simple» = b; «is_enumerate» = flag }))
-    unfolding toldWalked toldTypeRef byKind
+    unfolding toldWalked toldTypeRef typeAt
     named-ends flag f b z = record { walked = done b; walks = subst (Walks rd xs p) (ap toldWalked z) walks; is = tells; given = refl }
       where
-        tells : toldTypeRef q (Named (record { path = x; «is_simple» = b; «is_enumerate» = flag })) ≡ byKind rd xs p (done b) type
+        tells : toldTypeRef q (Named (record { path = x; «is_simple» = b; «is_enumerate» = flag })) ≡ typeAt rd xs p (done b)
         tells = rw (enumerates-there rd xs p v vv n e flag f) refl
 
     pub named-refused : (why : Refusal) → k ≡ walked.Refused why → NamedAs rd (schemasIn s) q x (Refused why)
-    unfolding toldWalked toldTypeRef byKind
+    unfolding toldWalked toldTypeRef typeAt
     named-refused why z = record { walked = refused (why .number) (why .place); walks = subst (Walks rd xs p) (ap toldWalked z) walks; is = tells; given = tt }
       where
-        tells : toldTypeRef q (Refused why) ≡ byKind rd xs p (refused (why .number) (why .place)) type
+        tells : toldTypeRef q (Refused why) ≡ typeAt rd xs p (refused (why .number) (why .place))
         tells = refl
 
 pub ruleset naming = (named-none, named-ends, named-refused)
 
 -- ---- by its kind
 
-is-entity : (k : ScopeType) → placeOf k ≡ 0 → k ≡ entity
-is-entity entity e = refl
-is-entity alias e = absurd (omega arith)
-is-entity function e = absurd (omega arith)
-is-entity procedure e = absurd (omega arith)
-is-entity query e = absurd (omega arith)
-is-entity repeat e = absurd (omega arith)
-is-entity rule e = absurd (omega arith)
-is-entity schema e = absurd (omega arith)
-is-entity subType e = absurd (omega arith)
-is-entity type e = absurd (omega arith)
+module _ (rd : Reading) (xs : List Schema) (p : meaning.Path) (w : Answer Bool) (k : ScopeType) where
+  by-entity : placeOf k ≡ 0 → byKind rd xs p w k ≡ entityAt rd xs p
+  unfolding byKind
+  by-entity e = rw e refl
 
-is-type : (k : ScopeType) → placeOf k ≡ 9 → k ≡ type
-is-type entity e = absurd (omega arith)
-is-type alias e = absurd (omega arith)
-is-type function e = absurd (omega arith)
-is-type procedure e = absurd (omega arith)
-is-type query e = absurd (omega arith)
-is-type repeat e = absurd (omega arith)
-is-type rule e = absurd (omega arith)
-is-type schema e = absurd (omega arith)
-is-type subType e = absurd (omega arith)
-is-type type e = refl
+  by-type : placeOf k ≡ 9 → byKind rd xs p w k ≡ typeAt rd xs p w
+  unfolding byKind
+  by-type e = rw e refl
 
-is-neither : (rd : Reading) (xs : List Schema) (p : meaning.Path) (w : Answer Bool) (k : ScopeType) → (placeOf k ≡ 0 → ⊥) → (placeOf k ≡ 9 → ⊥) → byKind rd xs p w k ≡ refused 14 0
-unfolding byKind
-is-neither rd xs p w entity a b = absurd (a refl)
-is-neither rd xs p w alias a b = refl
-is-neither rd xs p w function a b = refl
-is-neither rd xs p w procedure a b = refl
-is-neither rd xs p w query a b = refl
-is-neither rd xs p w repeat a b = refl
-is-neither rd xs p w rule a b = refl
-is-neither rd xs p w schema a b = refl
-is-neither rd xs p w subType a b = refl
-is-neither rd xs p w type a b = absurd (b refl)
+  by-neither : (placeOf k ≡ 0 → ⊥) → (placeOf k ≡ 9 → ⊥) → byKind rd xs p w k ≡ refused 14 0
+  unfolding byKind
+  by-neither a b = rw (ne-eqb (placeOf k) 0 a, ne-eqb (placeOf k) 9 b) refl
 
 module _ (q : List ℕ) (a : AskedPath) (h : a ≡ askedPathOf (pathQuery q)) where
   module _ (p : meaning.Path) (e : pathQuery q ≡ done p) where
@@ -127,20 +103,20 @@ module _ (q : List ℕ) (a : AskedPath) (h : a ≡ askedPathOf (pathQuery q)) wh
 
   module _ (rd : Reading) (s : List ℕ) (k : ℕ) (kk : k ≡ placeOf (toldKind (a .path .item .kind))) where
     pub typed-entity : k ≡ 0 → (b : Bool) (p : meaning.Path) → pathQuery q ≡ done p → TypedAs rd (schemasIn s) q b p (Entity (record { path = a .path; «is_supertype» = b }))
-    unfolding toldTypeRef byKind
+    unfolding toldTypeRef entityAt
     typed-entity z b p e = let w = walks-on rd (schemasIn s) p in record { walked = w .0; walks = w .1; is = tells (w .0); given = path-is p e }
       where
         tells : (w : Answer Bool) → isSupertype rd (schemasIn s) p ≡ done b → toldTypeRef q (Entity (record { path = a .path; «is_supertype» = b })) ≡ byKind rd (schemasIn s) p w (p .item .kind)
         tells w f =
             ap (λ (y : meaning.Path). done (an-entity-type (record { path = y; is-supertype = b }))) (told-back p e)
-            ∙ sym (ap (byKind rd (schemasIn s) p w) (is-entity (p .item .kind) (sym (kind-is p e) ∙ sym kk ∙ z)) ∙ ap (mapped (λ (c : Bool). an-entity-type (record { path = p; is-supertype = c }))) f)
+            ∙ sym (by-entity rd (schemasIn s) p w (p .item .kind) (sym (kind-is p e) ∙ sym kk ∙ z) ∙ ap (mapped (λ (c : Bool). an-entity-type (record { path = p; is-supertype = c }))) f)
 
     pub typed-named : k ≡ 9 → (r : TypeRef) → NamedAs rd (schemasIn s) q (a .path) r → (b : Bool) (p : meaning.Path) → pathQuery q ≡ done p → TypedAs rd (schemasIn s) q b p r
     typed-named z r N b p e =
         record {
           walked = N .walked;
           walks = subst (λ (y : meaning.Path). Walks rd (schemasIn s) y (N .walked)) (told-back p e) (N .walks);
-          is = λ f. N .is ∙ ap (λ (y : meaning.Path). byKind rd (schemasIn s) y (N .walked) type) (told-back p e) ∙ ap (byKind rd (schemasIn s) p (N .walked)) (sym (is-type (p .item .kind) (sym (kind-is p e) ∙ sym kk ∙ z)));
+          is = λ f. N .is ∙ ap (λ (y : meaning.Path). typeAt rd (schemasIn s) y (N .walked)) (told-back p e) ∙ sym (by-type rd (schemasIn s) p (N .walked) (p .item .kind) (sym (kind-is p e) ∙ sym kk ∙ z));
           given = subst (λ (y : Path). GivenPath y r) (path-is p e) (N .given);
         }
 
@@ -149,6 +125,6 @@ module _ (q : List ℕ) (a : AskedPath) (h : a ≡ askedPathOf (pathQuery q)) wh
     typed-neither y z why i b p e =
         let w = walks-on rd (schemasIn s) p in
         let j = kk ∙ kind-is p e in
-        record { walked = w .0; walks = w .1; is = λ f. rw i (sym (is-neither rd (schemasIn s) p (w .0) (p .item .kind) (λ g. y (j ∙ g)) (λ g. z (j ∙ g)))); given = tt }
+        record { walked = w .0; walks = w .1; is = λ f. rw i (sym (by-neither rd (schemasIn s) p (w .0) (p .item .kind) (λ g. y (j ∙ g)) (λ g. z (j ∙ g)))); given = tt }
 
 pub ruleset typing = (path-scope, path-item, typed-entity, typed-named, typed-neither)

@@ -7,13 +7,12 @@ use Rattle.refusal.specs.MeaningAnswer.{Answer, done}
 use Rattle.grammar.specs.MeaningReading.{Reading}
 use Rattle.schemas.specs.MeaningSchemas.{Schema}
 use Rattle.scope.specs.MeaningScope as meaning
-use Rattle.scope.specs.MeaningScope.ScopeType.{type}
 use Rattle.scope.specs.Told.{toldPath}
 use Rattle.scope.specs.Held.{pathIn}
 use Rattle.scope.specs.declared.Path.{Path}
 use Rattle.constraints.specs.MeaningQuestions.{isSupertype}
 use Rattle.named_types.specs.MeaningWalk.{Walks}
-use Rattle.type_ref.specs.MeaningTypes.{byKind}
+use Rattle.type_ref.specs.MeaningTypes.{typeAt, byKind}
 use Rattle.type_ref.specs.Told.{toldTypeRef}
 use Rattle.type_ref.specs.declared.TypeRef.{TypeRef}
 use Rattle.type_ref.specs.declared.TypeRef.the-variants.{Named, Entity, Refused}
@@ -28,7 +27,7 @@ GivenPath x (Refused why) = Unit {0}
 pub record NamedAs (rd : Reading) (xs : List Schema) (q : List ℕ) (x : Path) (r : TypeRef) : Type 0 where
   pub walked : Answer Bool
   pub walks : Walks rd xs (toldPath q x) walked
-  pub is : toldTypeRef q r ≡ byKind rd xs (toldPath q x) walked type
+  pub is : toldTypeRef q r ≡ typeAt rd xs (toldPath q x) walked
   pub given : GivenPath x r
 
 -- for a path that is asked for, which is a supertype or not as b says
