@@ -18,10 +18,10 @@ use Rattle.lookup.specs.MirrorLookup.{spanOf, Lies}
 use Rattle.lookup.specs.declared.Span.{Span}
 use Rattle.lookup.proofs.Names.{span-order, span-in, span-bytes}
 use Rattle.declarations.specs.MeaningNamespace.{schemasIn, Declaration, scopeIn, pathIn, declarations, outermost, schemaName, itemName}
-use Rattle.declarations.specs.MirrorDeclared.{Stands, StandsAt}
-use Rattle.declarations.specs.declared.Declared.{Declared}
-use Rattle.declarations.specs.declared.Declared.the-variants.{At, Past}
-use Rattle.declarations.proofs.Standing.{item-named}
+use Rattle.standing.specs.MirrorDeclared.{Stands, StandsAt}
+use Rattle.standing.specs.declared.Declared.{Declared}
+use Rattle.standing.specs.declared.Declared.the-variants.{At, Past}
+use Rattle.standing.proofs.Standing.{item-named}
 use Rattle.text.specs.MeaningText.{pathText, supertypeLine}
 use Rattle.text.specs.MirrorText.{Puts, nextText}
 use Rattle.text.proofs.Lines.{path-length, next-length}

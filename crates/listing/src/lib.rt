@@ -19,8 +19,6 @@ ghost use Rattle.listing.specs.MeaningLines.{namesOf, numberText, lineOf
 ghost use Rattle.listing.specs.MeaningListing.{flagsOf};
 ghost use Rattle.listing.specs.MeaningWhole.{AllWalked};
 ghost use Rattle.listing.specs.MirrorLines.{most-line, bytesAt, Short, Spells, RowStands, spanAt, Noted, lineOfSupertype, typeFrom, IsType};
-use declarations::Declared;
-use declarations::declaration;
 use declarations::first_of;
 use lookup::Sought;
 use lookup::Span;
@@ -31,6 +29,8 @@ use named_types::walk;
 use refusal::Refusal;
 use scope::ScopeType;
 use sheet::Reading;
+use standing::Declared;
+use standing::declaration;
 use text::Count;
 use text::Flags;
 use text::FlagsOf;

@@ -15,14 +15,14 @@ use Rattle.schemas.specs.MeaningSchemas.{Schema, nameOf, typeOf, entityOf, each
 use Rattle.lookup.specs.MirrorLookup.{itself, Picks}
 use Rattle.lookup.specs.declared.Place as place
 use Rattle.lookup.proofs.Fields.{each-map, field-in, nests-type, nests-entity}
 use Rattle.declarations.specs.MeaningNamespace.{schemasIn, a-type, an-entity, Declaration, itemOf, pathIn, declaredBy, numbered, entriesFrom, allOf, declarations}
-use Rattle.declarations.specs.MirrorDeclared.{namedAt, declaringTag, Stands, StandsAt, InFields}
-use Rattle.declarations.specs.declared.Declared.{Declared}
-use Rattle.declarations.specs.declared.Declared.the-variants.{At, Past}
+use Rattle.standing.specs.MirrorDeclared.{namedAt, declaringTag, Stands, StandsAt, InFields}
+use Rattle.standing.specs.declared.Declared.{Declared}
+use Rattle.standing.specs.declared.Declared.the-variants.{At, Past}
 use Rattle.declarations.proofs.Picking.{nth-left, nth-right, nth-past, nth-map}
 use Rattle.declarations.proofs.Numbering.{length-numbered, nth-numbered, length-declared}
 use Rattle.declarations.proofs.Schemas.{many-types, many-entities}
 use Rattle.declarations.proofs.Walks.{no-schemas, schema-here, no-schema-here}
 
 -- ---- among the fields of one schema
 

@@ -1,8 +1,8 @@
 -- `resolved_for`: the outermost step, then the last schema of its name.
 use borrow.Author.Needs.{needs}
-use Rattle.declarations.proofs.Leading.{reaching-names}
-use Rattle.declarations.proofs.resolved_for.Statement.{statement}
-use Rattle.declarations.proofs.resolved_for.Tie as tie
+use Rattle.resolving.proofs.Leading.{reaching-names}
+use Rattle.resolving.proofs.resolved_for.Statement.{statement}
+use Rattle.resolving.proofs.resolved_for.Tie as tie
 
 returns : tie.Need-returns
 returns c = search (reaching-names, needs)

@@ -8,9 +8,9 @@ use lib.ListN.{length, getElem?}
 use lib.Dec.{eqb}
 use Rattle.schemas.specs.MeaningTree.{Tree, treeAt}
 use Rattle.schemas.specs.MeaningSchemas.{typeOf, entityOf, schemaOf}
 use Rattle.declarations.specs.MeaningNamespace.{Named, a-type, an-entity, pathIn, Declaration, declaredBy, numbered}
-use Rattle.declarations.specs.declared.Declared.{Declared}
-use Rattle.declarations.specs.declared.Declared.the-variants.{At, Past}
+use Rattle.standing.specs.declared.Declared.{Declared}
+use Rattle.standing.specs.declared.Declared.the-variants.{At, Past}
 
 -- what a field with the tag declares, 20 or 30, at this place and with these fields
 unfoldable pub namedAt : ℕ → ℕ → Tree → Named

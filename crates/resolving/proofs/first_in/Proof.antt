@@ -1,8 +1,8 @@
 -- `first_in`: in the last schema of the name, if it is the only one, or in all schemas of the name.
 use borrow.Author.Needs.{needs}
-use Rattle.declarations.proofs.Leading.{firsts}
-use Rattle.declarations.proofs.first_in.Statement.{statement}
-use Rattle.declarations.proofs.first_in.Tie as tie
+use Rattle.resolving.proofs.Leading.{firsts}
+use Rattle.resolving.proofs.first_in.Statement.{statement}
+use Rattle.resolving.proofs.first_in.Tie as tie
 
 enum-known-last : tie.Need-enum-known-last
 enum-known-last c = search needs

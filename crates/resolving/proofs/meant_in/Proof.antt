@@ -1,8 +1,8 @@
 -- `meant_in`: types, then entities, then the first declaration with that path.
 use borrow.Author.Needs.{needs}
-use Rattle.declarations.proofs.Leading.{meaning-names}
-use Rattle.declarations.proofs.meant_in.Statement.{statement}
-use Rattle.declarations.proofs.meant_in.Tie as tie
+use Rattle.resolving.proofs.Leading.{meaning-names}
+use Rattle.resolving.proofs.meant_in.Statement.{statement}
+use Rattle.resolving.proofs.meant_in.Tie as tie
 
 enum-known-last : tie.Need-enum-known-last
 enum-known-last c = search needs

@@ -1,8 +1,8 @@
 -- `number_for`: the path of a declaration, or one that leads nowhere.
 use borrow.Author.Needs.{needs}
-use Rattle.declarations.proofs.Leading.{routing}
-use Rattle.declarations.proofs.number_for.Statement.{statement}
-use Rattle.declarations.proofs.number_for.Tie as tie
+use Rattle.resolving.proofs.Leading.{routing}
+use Rattle.resolving.proofs.number_for.Statement.{statement}
+use Rattle.resolving.proofs.number_for.Tie as tie
 
 returns : tie.Need-returns
 returns c = search (routing, needs)

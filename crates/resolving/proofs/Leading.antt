@@ -22,16 +22,17 @@ use Rattle.scope.specs.declared.Path.{Path}
 use Rattle.scope.proofs.Equality.{name-refl, two}
 use Rattle.lookup.specs.declared.Sought.{Sought}
 use Rattle.lookup.specs.declared.Sought.the-variants.{At, Past}
 use Rattle.declarations.specs.MeaningNamespace.{schemasIn, Named, a-type, an-entity, Declaration, scopeIn, itemOf, declaredBy, numbered, Entry, entriesFrom, declarations, first, or, last, declarationFor, itemsOf, seen, resolved}
 use Rattle.declarations.specs.MeaningNamespace as meant
 use Rattle.declarations.specs.MirrorNamespace.{wordOf, schemaScope, pathTo, Small, soughtOf, typeIn, entityIn, inSchema, inKind, NumbersIn, entryOf, LastIs, namesakes, Alone, LastSchemaOf, thenFor, meantIn}
 use Rattle.declarations.specs.declared.Numbers.{Numbers}
 use Rattle.declarations.specs.declared.LastSchema as latest
 use Rattle.declarations.proofs.Picking.{or-none, first-found, last-found}
 use Rattle.declarations.proofs.Schemas.{found, numberOf, named-so, among-types, among-entities, halves, found-there, types-means, entities-means, in-schema-means, one-scope, led-to, in-kind-means}
-use Rattle.declarations.proofs.Scopes.{declaration-same, seen-same, Foreign, foreign-root, foreign-deep, foreign-other, nowhere, resolved-root, resolved-first, resolved-other}
+use Rattle.declarations.proofs.Scopes.{declaration-same, seen-same}
 use Rattle.declarations.proofs.Walks.{so-named, found-at, lost-at}
-use Rattle.declarations.proofs.Namesakes.{unnamed, sole}
+use Rattle.resolving.proofs.Reaching.{Foreign, foreign-root, foreign-deep, foreign-other, nowhere, resolved-root, resolved-first, resolved-other}
+use Rattle.resolving.proofs.Namesakes.{unnamed, sole}
 
 -- ---- a number found
 

@@ -1,11 +1,11 @@
 -- `declaration`: what stands among the declarations left stands among them all.
 use borrow.Author.Needs.{needs}
 use Prim.Native.Nat.{_-_}
 use Rattle.declarations.specs.MeaningNamespace.{schemasIn, declarations}
 use Rattle.lookup.proofs.Fields.{fields}
-use Rattle.declarations.proofs.Standing.{Going, going}
-use Rattle.declarations.proofs.declaration.Statement.{statement}
-use Rattle.declarations.proofs.declaration.Tie as tie
+use Rattle.standing.proofs.Standing.{Going, going}
+use Rattle.standing.proofs.declaration.Statement.{statement}
+use Rattle.standing.proofs.declaration.Tie as tie
 
 abbrev Inv-loop : tie.InvT-loop
 Inv-loop sheet index end left₀ from₀ left from = Going sheet end left from index (declarations (schemasIn sheet))

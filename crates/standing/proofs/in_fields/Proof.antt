@@ -1,9 +1,8 @@
 -- `in_fields` counts through the types, then through the entities.
 use borrow.Author.Needs.{needs}
-use Rattle.declarations.proofs.Standing.{fielding}
-use borrow.Author.Needs.{needs}
-use Rattle.declarations.proofs.in_fields.Statement.{statement}
-use Rattle.declarations.proofs.in_fields.Tie as tie
+use Rattle.standing.proofs.Standing.{fielding}
+use Rattle.standing.proofs.in_fields.Statement.{statement}
+use Rattle.standing.proofs.in_fields.Tie as tie
 
 nth-requires : tie.Need-nth-requires
 nth-requires c κs = search (fielding, needs)
