@@ -39,10 +39,11 @@ use Rattle.text.specs.MirrorText.{Puts}
 use Rattle.text.specs.Told.{toldFlags}
 use Rattle.text.specs.declared.Flags.{Flags}
 use Rattle.text.specs.declared.Flags.the-variants.{Are, Refused}
-use Rattle.listing.specs.MeaningLines.{namesAt, namesOf}
+use Rattle.noting.specs.MeaningNames.{namesAt, namesOf}
+use Rattle.noting.specs.MirrorNoted.{bytesAt, Spells}
 use Rattle.listing.specs.MeaningListing.{flagsOf}
 use Rattle.listing.specs.MeaningWhole.{AllWalked}
-use Rattle.listing.specs.MirrorLines.{bytesAt, Spells, typeOr, firstType, typeFrom}
+use Rattle.listing.specs.MirrorLines.{typeOr, firstType, typeFrom}
 use Rattle.listing.proofs.Shortness.{All, all-append, all-in}
 use Rattle.listing.proofs.Spelling.{nth-there}
 

@@ -1,9 +1,9 @@
 -- `note_names` meets its contract. The invariant: the names of the first `index` declarations are noted.
 use Prim.Native.Nat.{_-_}
-use Rattle.listing.proofs.Noting.{Noting, noting, noting-next}
+use Rattle.noting.proofs.Noting.{Noting, noting, noting-next}
 use borrow.Author.Needs.{needs}
-use Rattle.listing.proofs.note_names.Statement.{statement}
-use Rattle.listing.proofs.note_names.Tie as tie
+use Rattle.noting.proofs.note_names.Statement.{statement}
+use Rattle.noting.proofs.note_names.Tie as tie
 
 abbrev Inv-loop : tie.InvT-loop
 Inv-loop sheet names₀ room index₀ names index = Noting sheet room index names₀ names

@@ -2,8 +2,8 @@
 use Prim.Native.Nat.{_+_}
 use native.Mathlib.Omega.{arith}
 use borrow.Author.Needs.{needs}
-use Rattle.listing.proofs.noted.Statement.{statement}
-use Rattle.listing.proofs.noted.Tie as tie
+use Rattle.noting.proofs.noted.Statement.{statement}
+use Rattle.noting.proofs.noted.Tie as tie
 
 mul-t3 : tie.Need-mul-t3
 mul-t3 c = search needs

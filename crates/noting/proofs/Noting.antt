@@ -9,8 +9,8 @@ use lib.ListN.{length, set, getD, length-set}
 use lib.Seq.{getD-set-same, getD-set-other}
 use Rattle.lookup.specs.declared.Span.{Span}
 use Rattle.declarations.specs.MeaningNamespace.{schemasIn}
-use Rattle.listing.specs.MeaningLines.{namesOf}
-use Rattle.listing.specs.MirrorLines.{Spells, spanAt, NotedAt, Noted}
+use Rattle.noting.specs.MeaningNames.{namesOf}
+use Rattle.noting.specs.MirrorNoted.{Spells, spanAt, NotedAt, Noted}
 
 -- ---- two numbers
 

@@ -2,8 +2,8 @@
 use native.Mathlib.Omega.{arith}
 use lib.ListN.{length-set}
 use borrow.Author.Needs.{needs}
-use Rattle.listing.proofs.note.Statement.{statement}
-use Rattle.listing.proofs.note.Tie as tie
+use Rattle.noting.proofs.note.Statement.{statement}
+use Rattle.noting.proofs.note.Tie as tie
 
 cast-names : tie.Need-cast-names
 cast-names c = search needs

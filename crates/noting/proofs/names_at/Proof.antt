@@ -1,8 +1,8 @@
 -- `names_at` meets its contract.
-use Rattle.listing.proofs.Spelling.{spelling}
+use Rattle.noting.proofs.Spelling.{spelling}
 use borrow.Author.Needs.{needs}
-use Rattle.listing.proofs.names_at.Statement.{statement}
-use Rattle.listing.proofs.names_at.Tie as tie
+use Rattle.noting.proofs.names_at.Statement.{statement}
+use Rattle.noting.proofs.names_at.Tie as tie
 
 declaration-requires : tie.Need-declaration-requires
 declaration-requires c κs = search needs

@@ -1,8 +1,8 @@
 -- `names_of` meets its contract: as they are noted, or as they are found.
-use Rattle.listing.proofs.Noting.{reading-notes}
+use Rattle.noting.proofs.Noting.{reading-notes}
 use borrow.Author.Needs.{needs}
-use Rattle.listing.proofs.names_of.Statement.{statement}
-use Rattle.listing.proofs.names_of.Tie as tie
+use Rattle.noting.proofs.names_of.Statement.{statement}
+use Rattle.noting.proofs.names_of.Tie as tie
 
 mul-noted : tie.Need-mul-noted
 mul-noted c = search needs
