@@ -4,7 +4,4 @@ pub mod Numbering
 pub mod Schemas
 pub mod Scopes
 pub mod Walks
-pub mod Namesakes
-pub mod Leading
-pub mod Standing
 pub mod Proved

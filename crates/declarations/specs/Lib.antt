@@ -4,4 +4,3 @@ pub mod MeaningExamples
 pub mod Told
 pub mod Claims
 pub mod MirrorNamespace
-pub mod MirrorDeclared

@@ -24,7 +24,8 @@ use Rattle.declarations.specs.MeaningNamespace.{scopeIn, itemOf, pathIn, first,
 use Rattle.declarations.specs.MirrorNamespace.{wordOf, schemaScope}
 use Rattle.declarations.specs.MeaningNamespace.Named.{an-entity}
 use Rattle.declarations.proofs.Schemas.{named-so}
-use Rattle.declarations.proofs.Scopes.{declaration-same, seen-same, resolved-first}
+use Rattle.declarations.proofs.Scopes.{declaration-same, seen-same}
+use Rattle.resolving.proofs.Reaching.{resolved-first}
 use Rattle.merging.specs.MeaningMerging.{Combined, Pair}
 use Rattle.merging.specs.MirrorStream.{paired}
 use Rattle.records.specs.MeaningResolving.{ruleOf, resolvedExpr, resolvedTerms, pathFor, ownPath, numberFor, numberIn}

@@ -22,7 +22,8 @@ use Rattle.records.specs.MeaningResolving.{ruleOf, resolvedExpr, pathFor, ownPa
 use Rattle.gathering.specs.MeaningGathering.{through, supersOf, ruled, stepB, constrained, stepD, subtype, stepC, gather}
 use Rattle.gathering.specs.MeaningCombined.{supertypes}
 use Rattle.text.specs.MeaningText as text
-use Rattle.listing.specs.MeaningLines.{namesAt, namesOf, numberText, lineOfPart, partLines, partsOf, listLines}
+use Rattle.noting.specs.MeaningNames.{namesAt, namesOf}
+use Rattle.listing.specs.MeaningLines.{numberText, lineOfPart, partLines, partsOf, listLines}
 use Rattle.listing.specs.MeaningListing.{supertypeLines, typeLinesOf, typeLines, linesOf, listed, printed}
 use Rattle.listing.specs.MeaningWhole.{ListsBy, Lists}
 use Rattle.lister.specs.MeaningExample.{cam-lines}

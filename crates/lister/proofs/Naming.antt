@@ -16,7 +16,7 @@ use Rattle.declarations.proofs.Proved.{get-lowest}
 use Rattle.records.specs.MeaningResolving.{numberFor}
 use Rattle.gathering.specs.Claims.{IsDeclared}
 use Rattle.gathering.proofs.Declaring.{number-is}
-use Rattle.listing.specs.MeaningLines.{namesAt, namesOf}
+use Rattle.noting.specs.MeaningNames.{namesAt, namesOf}
 
 module _ (rd : Reading) where
   same-bytes : (r : Reading) (a b : List ℕ) → sameName r a b ≡ true → a ≡ b

@@ -27,8 +27,9 @@ use Rattle.text.specs.MeaningText.{supertypeLine}
 use Rattle.text.specs.MirrorText.{Puts}
 use Rattle.text.specs.Told.{toldCount}
 use Rattle.text.specs.declared.Count.the-variants as count
+use Rattle.noting.specs.MirrorNoted.{Noted}
 use Rattle.listing.specs.MeaningLines.{partsOf}
-use Rattle.listing.specs.MirrorLines.{Short, Noted, lineOfSupertype}
+use Rattle.listing.specs.MirrorLines.{Short, lineOfSupertype}
 use Rattle.lister.specs.MirrorRest.{Lines, Ready, From, SupertypesLeft, ownerLines, typesFrom, supertypesFrom, Rest, Gives, AtCursor, GivesFirst, left, Falls}
 use Rattle.lister.specs.declared.Cursor.the-variants as on
 use Rattle.lister.specs.declared.Line.{Line}

@@ -19,8 +19,9 @@ use Rattle.grammar.specs.MeaningReading.{Reading}
 use Rattle.declarations.specs.MeaningNamespace.{schemasIn}
 use Rattle.text.specs.MeaningText.{partLine}
 use Rattle.text.specs.MirrorText.{Puts}
+use Rattle.noting.specs.MirrorNoted.{Noted}
 use Rattle.listing.specs.MeaningLines.{lineOfPart, partLines}
-use Rattle.listing.specs.MirrorLines.{Short, Noted, RowStands}
+use Rattle.listing.specs.MirrorLines.{Short, RowStands}
 use Rattle.listing.proofs.Proved.{parts-stand}
 use Rattle.lister.specs.MirrorRest.{PartsLeft, supertypesFrom, owners, Rest, Gives, AtCursor, GivesFirst, left, Falls}
 use Rattle.lister.specs.declared.Cursor.the-variants as on

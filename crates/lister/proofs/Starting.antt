@@ -29,9 +29,9 @@ use Rattle.supertypes.specs.MirrorStanding.{Both, Gathers}
 use Rattle.supertypes.proofs.Answering.{answers-then}
 use Rattle.supertypes.proofs.Asking.{asked-refused}
 use Rattle.text.specs.MeaningText.{refusedLine}
+use Rattle.noting.specs.MirrorNoted.{Noted}
 use Rattle.listing.specs.MeaningListing.{listed, printed}
 use Rattle.listing.specs.MeaningWhole.{ListsBy}
-use Rattle.listing.specs.MirrorLines.{Noted}
 use Rattle.listing.proofs.Proved.{accepted-is-short}
 use Rattle.lister.specs.MirrorRest.{Lines, supertypesFrom, Rest, Starts}
 use Rattle.lister.specs.declared.Cursor.the-variants as cursor

@@ -15,10 +15,11 @@ use Rattle.merging.specs.MirrorStream.{streamOf, paired, ownersFrom}
 use Rattle.supertypes.specs.MirrorStanding.{Both, Standing, listBy}
 use Rattle.text.specs.MeaningText.{refusedLine}
 use Rattle.text.specs.MirrorText.{Puts}
+use Rattle.noting.specs.MirrorNoted.{Noted}
 use Rattle.listing.specs.MeaningLines.{partLines, partsOf}
 use Rattle.listing.specs.MeaningListing.{typeLines}
 use Rattle.listing.specs.MeaningWhole.{AllWalked, ListsBy}
-use Rattle.listing.specs.MirrorLines.{Short, Noted, lineOfSupertype}
+use Rattle.listing.specs.MirrorLines.{Short, lineOfSupertype}
 use Rattle.lister.specs.declared.Records.{Records}
 use Rattle.lister.specs.declared.Parts.{Parts}
 use Rattle.lister.specs.declared.Cursor as cursor

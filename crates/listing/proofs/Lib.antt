@@ -2,6 +2,5 @@
 pub mod Shortness
 pub mod Spelling
 pub mod Listing
-pub mod Noting
 pub mod Typing
 pub mod Proved

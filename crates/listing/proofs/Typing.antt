@@ -21,10 +21,10 @@ use Rattle.lookup.specs.declared.Span.{Span}
 use Rattle.lookup.specs.declared.Sought.{Sought}
 use Rattle.lookup.specs.declared.Sought.the-variants as sought
 use Rattle.declarations.specs.MeaningNamespace.{schemasIn, Named, a-type, an-entity, Declaration, scopeIn, itemOf, pathIn, declaredBy, numbered, entriesFrom, allOf, declarations, declarationFor, outermost, schemaName, itemName}
-use Rattle.declarations.specs.MirrorDeclared.{namedAt, Stands, StandsAt}
+use Rattle.standing.specs.MirrorDeclared.{namedAt, Stands, StandsAt}
 use Rattle.declarations.specs.MirrorNamespace.{soughtOf, pathTo}
-use Rattle.declarations.specs.declared.Declared.{Declared}
-use Rattle.declarations.specs.declared.Declared.the-variants.{At, Past}
+use Rattle.standing.specs.declared.Declared.{Declared}
+use Rattle.standing.specs.declared.Declared.the-variants.{At, Past}
 use Rattle.declarations.proofs.Scopes.{declaration-same, own-path}
 use Rattle.named_types.specs.MeaningWalk.{isEnumeration}
 use Rattle.named_types.specs.MirrorTypes.{walkedBy}
@@ -39,10 +39,11 @@ use Rattle.text.specs.MirrorText.{Puts}
 use Rattle.text.specs.Told.{toldFlags}
 use Rattle.text.specs.declared.Flags.{Flags}
 use Rattle.text.specs.declared.Flags.the-variants.{Are, Refused}
-use Rattle.listing.specs.MeaningLines.{namesAt, namesOf}
+use Rattle.noting.specs.MeaningNames.{namesAt, namesOf}
+use Rattle.noting.specs.MirrorNoted.{bytesAt, Spells}
 use Rattle.listing.specs.MeaningListing.{flagsOf}
 use Rattle.listing.specs.MeaningWhole.{AllWalked}
-use Rattle.listing.specs.MirrorLines.{bytesAt, Spells, typeOr, firstType, typeFrom}
+use Rattle.listing.specs.MirrorLines.{typeOr, firstType, typeFrom}
 use Rattle.listing.proofs.Shortness.{All, all-append, all-in}
 use Rattle.listing.proofs.Spelling.{nth-there}
 

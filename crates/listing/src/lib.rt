@@ -3,7 +3,7 @@ ghost use mathlib.Core.Path.{_≡_};
 ghost use mathlib.Core.Bool.{Bool, true};
 ghost use mathlib.Core.Option.{some};
 ghost use Prim.Native.Nat.{_+_, _≤_};
-ghost use lib.ListN.{length, set, getElem?};
+ghost use lib.ListN.{length, getElem?};
 ghost use Rattle.refusal.specs.MeaningAnswer.{Answer};
 ghost use Rattle.complex_entity.specs.MirrorParts.{partAt};
 ghost use Rattle.sheet.specs.Told.{toldReading};
@@ -15,22 +15,23 @@ ghost use Rattle.declarations.specs.MirrorNamespace.{pathTo};
 ghost use Rattle.text.specs.MeaningText.{typeLine};
 ghost use Rattle.text.specs.MirrorText.{Puts, nextText, Counted};
 ghost use Rattle.text.specs.Told.{toldCount, toldFlags};
-ghost use Rattle.listing.specs.MeaningLines.{namesOf, numberText, lineOfPart};
+ghost use Rattle.noting.specs.MirrorNoted.{Noted};
+ghost use Rattle.listing.specs.MeaningLines.{numberText, lineOfPart};
 ghost use Rattle.listing.specs.MeaningListing.{flagsOf};
 ghost use Rattle.listing.specs.MeaningWhole.{AllWalked};
-ghost use Rattle.listing.specs.MirrorLines.{most-line, bytesAt, Short, Spells, RowStands, spanAt, Noted, lineOfSupertype, typeFrom, IsType};
-use declarations::Declared;
-use declarations::declaration;
+ghost use Rattle.listing.specs.MirrorLines.{most-line, Short, RowStands, lineOfSupertype, typeFrom, IsType};
 use declarations::first_of;
 use lookup::Sought;
-use lookup::Span;
-use lookup::name_of;
 use named_types::Walked;
 use named_types::is_enumeration;
 use named_types::walk;
+use noting::bytes_at;
+use noting::names_of;
 use refusal::Refusal;
 use scope::ScopeType;
 use sheet::Reading;
+use standing::Declared;
+use standing::declaration;
 use text::Count;
 use text::Flags;
 use text::FlagsOf;
@@ -39,98 +40,6 @@ use text::part_start;
 use text::put_next;
 use text::supertype_line;
 use text::type_line;
-
-// Where the names of a declaration stand in the sheet.
-pub struct NamesAt {
-    pub schema: Span,
-    pub item: Span,
-}
-
-// An undeclared index has empty names.
-fn names_at(sheet: &[u8], index: usize) -> NamesAt
-    ensures { λ r. ⌜ Spells (now (sheet .entry)) (namesOf (schemasIn (now (sheet .entry))) index .schema) (r .schema) × Spells (now (sheet .entry)) (namesOf (schemasIn (now (sheet .entry))) index .item) (r .item) ⌝ }
-{
-    let Declared::At {
-        schema_start,
-        schema_stop,
-        tag: _,
-        start,
-        stop,
-    } = declaration(sheet, index)
-    else {
-        return NamesAt {
-            schema: Span { start: 0, stop: 0 },
-            item: Span { start: 0, stop: 0 },
-        };
-    };
-    let schema = name_of(sheet, schema_start, schema_stop);
-    let item = name_of(sheet, start, stop);
-    NamesAt { schema, item }
-}
-
-// The bytes that stand there.
-fn bytes_at(sheet: &[u8], span: Span) -> &[u8]
-    requires { ⌜ (span .start ≤ span .stop) × (span .stop ≤ length (now sheet)) ⌝ }
-    ensures { λ r. ⌜ now r ≡ bytesAt (now (sheet .entry)) span ⌝ }
-{
-    let start = span.start;
-    let stop = span.stop;
-    &sheet[start..stop]
-}
-
-// ---- The names are found once, and noted: four numbers for each declaration, for as many as there is room.
-
-const NOTED: usize = 4;
-
-// Where a name stands, in two numbers.
-fn note(names: &mut [u16], at: usize, span: Span)
-    requires { ⌜ (at + 2 ≤ length (now names)) × (span .start ≤ 65535) × (span .stop ≤ 65535) ⌝ }
-    ensures { λ _. ⌜ now (names .exit) ≡ set (set (now (names .entry)) at (span .start)) (at + 1) (span .stop) ⌝ }
-{
-    names[at] = span.start as u16;
-    names[at + 1] = span.stop as u16;
-}
-
-// For the declarations from the first on.
-pub fn note_names(sheet: &[u8], names: &mut [u16])
-    requires { ⌜ length (now sheet) ≤ 65535 ⌝ }
-    ensures { λ _. ⌜ Noted (now (sheet .entry)) (now (names .exit)) ⌝ }
-{
-    let room = names.len() / NOTED;
-    let mut index = 0;
-    while index < room {
-        let here = names_at(sheet, index);
-        let schema = here.schema;
-        let item = here.item;
-        note(names, NOTED * index, schema);
-        note(names, NOTED * index + 2, item);
-        index += 1;
-    }
-}
-
-// Where a name stands, as it is noted.
-fn noted(names: &[u16], at: usize) -> Span
-    requires { ⌜ at + 2 ≤ length (now names) ⌝ }
-    ensures { λ r. ⌜ r ≡ spanAt (now (names .entry)) at ⌝ }
-{
-    Span {
-        start: names[at] as usize,
-        stop: names[at + 1] as usize,
-    }
-}
-
-// As they are noted; what is not noted is looked for.
-fn names_of(sheet: &[u8], names: &[u16], index: usize) -> NamesAt
-    requires { ⌜ Noted (now sheet) (now names) ⌝ }
-    ensures { λ r. ⌜ Spells (now (sheet .entry)) (namesOf (schemasIn (now (sheet .entry))) index .schema) (r .schema) × Spells (now (sheet .entry)) (namesOf (schemasIn (now (sheet .entry))) index .item) (r .item) ⌝ }
-{
-    if index < names.len() / NOTED {
-        let schema = noted(names, NOTED * index);
-        let item = noted(names, NOTED * index + 2);
-        return NamesAt { schema, item };
-    }
-    names_at(sheet, index)
-}
 
 // One path more: that of the declaration with the index.
 pub fn number_path(

@@ -16,9 +16,9 @@ use Rattle.schemas.specs.MeaningTree.{treeAt, treeOf}
 use Rattle.schemas.specs.MeaningSchemas.{schemaOf, schemasOf}
 use Rattle.lookup.proofs.Fields.{field-in, field-on, field-order, field-start}
 use Rattle.declarations.specs.MeaningNamespace.{schemasIn, declaredBy, numbered, entriesFrom, allOf, declarations}
-use Rattle.declarations.specs.MirrorDeclared.{StandsAt}
-use Rattle.declarations.specs.declared.Declared.{Declared}
-use Rattle.declarations.specs.declared.Declared.the-variants.{At, Past}
+use Rattle.standing.specs.MirrorDeclared.{StandsAt}
+use Rattle.standing.specs.declared.Declared.{Declared}
+use Rattle.standing.specs.declared.Declared.the-variants.{At, Past}
 use Rattle.declarations.proofs.Picking.{nth-past}
 use Rattle.declarations.proofs.Numbering.{length-numbered}
 use Rattle.declarations.proofs.Schemas.{size-is, size-few}

@@ -21,11 +21,11 @@ use Rattle.lookup.specs.declared.Sought.the-variants as sought
 use Rattle.lookup.proofs.Names.{span-order, span-in, span-bytes}
 use Rattle.declarations.specs.MeaningNamespace.{schemasIn, Declaration, Named, a-type, scopeIn, pathIn, declarations, answered, declarationFor, resolved}
 use Rattle.declarations.specs.MirrorNamespace.{soughtOf, thenFor, meantIn}
-use Rattle.declarations.specs.MirrorDeclared.{namedAt, Stands, StandsAt}
-use Rattle.declarations.specs.declared.Declared.{Declared}
-use Rattle.declarations.specs.declared.Declared.the-variants.{At, Past}
-use Rattle.declarations.proofs.Scopes.{own-meant}
+use Rattle.standing.specs.MirrorDeclared.{namedAt, Stands, StandsAt}
+use Rattle.standing.specs.declared.Declared.{Declared}
+use Rattle.standing.specs.declared.Declared.the-variants.{At, Past}
 use Rattle.declarations.proofs.Proved.{resolved-declared}
+use Rattle.resolving.proofs.Reaching.{own-meant}
 use Rattle.records.specs.MeaningResolving.{pathFor, numberIn, numberFor}
 use Rattle.records.proofs.Declaring.{in-at, path-declared}
 use Rattle.named_types.specs.MeaningWalk.{goes, bodyStep, namedStep, isEnumeration}

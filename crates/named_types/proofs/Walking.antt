@@ -24,8 +24,9 @@ use Rattle.scope.specs.MeaningScope.{Scope, Path, sameScope, sameStep, samePath
 use Rattle.declarations.specs.MeaningNamespace.{Declaration, Named, declarations, answered, declarationFor, resolved}
 use Rattle.declarations.specs.MeaningNamespace.Named.{a-type, an-entity}
 use Rattle.declarations.proofs.Numbering.{at-number}
-use Rattle.declarations.proofs.Scopes.{declaration-same, resolved-same}
+use Rattle.declarations.proofs.Scopes.{declaration-same}
 use Rattle.declarations.proofs.Proved.{resolved-declared, get-lowest, get-apart}
+use Rattle.resolving.proofs.Reaching.{resolved-same}
 use Rattle.records.specs.MeaningResolving.{pathFor, numberFor}
 use Rattle.gathering.specs.Claims.{IsDeclared}
 use Rattle.records.proofs.Declaring.{in-at, path-declared}

@@ -12,15 +12,15 @@ ghost use Rattle.declarations.specs.MeaningNamespace.{schemasIn, declarations};
 ghost use Rattle.named_types.specs.MeaningWalk.{isEnumeration};
 ghost use Rattle.named_types.specs.MirrorTypes.{turnAt, walkedBy};
 ghost use Rattle.named_types.specs.MirrorCode.{BodyIs, toldTurn, toldWalked};
-use declarations::Declared;
-use declarations::declaration;
-use declarations::meant;
 use lookup::Sought;
 use lookup::name_of;
 use refusal::Refusal;
+use resolving::meant;
 use sheet::Header;
 use sheet::Reading;
 use sheet::field_at;
+use standing::Declared;
+use standing::declaration;
 
 // What a type is; of a named type, where the name stands.
 pub enum Body {

@@ -35,7 +35,7 @@ use Rattle.declarations.specs.MeaningNamespace.{schemasIn, Declaration, answere
 use Rattle.declarations.specs.Told.{toldFound}
 use Rattle.declarations.specs.MirrorNamespace.{soughtOf}
 use Rattle.declarations.specs.declared.Found.the-variants.{Number, Refused}
-use Rattle.declarations.proofs.Leading.{small-at}
+use Rattle.resolving.proofs.Leading.{small-at}
 use Rattle.namespace.specs.MeaningOrder.{Answers}
 use Rattle.namespace.specs.Told.{toldVerdict}
 use Rattle.namespace.specs.Promises.{Promise-resolve, Promise-get}

@@ -19,9 +19,9 @@ use Rattle.lookup.specs.MirrorLookup.{spanOf, Lies}
 use Rattle.lookup.specs.declared.Span.{Span}
 use Rattle.lookup.proofs.Names.{span-order, span-in, span-bytes}
 use Rattle.declarations.specs.MeaningNamespace.{schemasIn, Declaration, scopeIn, pathIn, declarations, answered, pathAt, outermost, schemaName, itemName}
-use Rattle.declarations.specs.MirrorDeclared.{Stands, StandsAt}
-use Rattle.declarations.specs.declared.Declared as declared
-use Rattle.declarations.proofs.Standing.{item-named}
+use Rattle.standing.specs.MirrorDeclared.{Stands, StandsAt}
+use Rattle.standing.specs.declared.Declared as declared
+use Rattle.standing.proofs.Standing.{item-named}
 use Rattle.namespace.specs.MeaningOrder.{Answers}
 use Rattle.namespace.specs.Told.{toldVerdict}
 use Rattle.namespace.specs.Promises.{Asked, partOf, Promise-part, Promise-path}

@@ -10,11 +10,7 @@ ghost use Rattle.namespace.specs.MeaningOrder.{Answers};
 ghost use Rattle.namespace.specs.Told.{toldVerdict};
 ghost use Rattle.namespace.specs.Promises.{Promise-resolve, Promise-get, Promise-part, Promise-path};
 ghost use Rattle.namespace.specs.MirrorNames.{NameStands};
-use declarations::Declared;
 use declarations::Found;
-use declarations::declaration;
-use declarations::number_for;
-use declarations::resolved_for;
 use lookup::Sought;
 use lookup::Span;
 use lookup::name_of;
@@ -22,9 +18,13 @@ use query::Verdict;
 use query::read_path;
 use query::read_resolve;
 use refusal::Refusal;
+use resolving::number_for;
+use resolving::resolved_for;
 use sheet::Judgement;
 use sheet::Reading;
 use sheet::verdict_in;
+use standing::Declared;
+use standing::declaration;
 
 // Which name of a declaration's path.
 pub enum PathName {

@@ -25,7 +25,7 @@ use Rattle.declarations.specs.MirrorNamespace.{wordOf, schemaScope, pathTo, sou
 use Rattle.declarations.specs.Told.{toldFound}
 use Rattle.declarations.specs.declared.Found.the-variants as found
 use Rattle.declarations.proofs.Scopes.{declaration-same}
-use Rattle.declarations.proofs.Leading.{small-at}
+use Rattle.resolving.proofs.Leading.{small-at}
 use Rattle.declarations.proofs.Proved.{resolved-declared}
 use Rattle.records.specs.MeaningResolving.{pathFor, ownPath, numberIn, numberFor}
 use Rattle.records.specs.MirrorRecords.{numberMeant, ownNumber, wordAt, schemaNamed}

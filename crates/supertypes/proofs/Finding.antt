@@ -18,7 +18,7 @@ use Rattle.declarations.specs.MeaningNamespace.{Declaration}
 use Rattle.declarations.specs.MirrorNamespace.{soughtOf}
 use Rattle.declarations.specs.Told.{toldFound}
 use Rattle.declarations.specs.declared.Found.the-variants as found
-use Rattle.declarations.proofs.Leading.{small-at}
+use Rattle.resolving.proofs.Leading.{small-at}
 use Rattle.merging.specs.MeaningMerging.{Combined, find}
 use Rattle.merging.specs.MeaningFirsts.{firsts}
 use Rattle.merging.specs.MirrorStream.{streamOf, paired, isFound, ownerOf}

@@ -17,7 +17,6 @@ ghost use Rattle.supertypes.specs.MeaningWorkspace.{left};
 ghost use Rattle.supertypes.specs.MirrorStanding.{Both, Standing, Stood, Gathers, ownedIn, ownerIn, listBy, listIn, ListedAs};
 use combining::combine;
 use declarations::Found;
-use declarations::number_for;
 use evaluation::value;
 use expression::Valued;
 use gathering::Gathered;
@@ -32,6 +31,7 @@ use merging::owner_at;
 use namespace::cleared;
 use query::Verdict;
 use refusal::Refusal;
+use resolving::number_for;
 use scope::Path;
 use sheet::Reading;
 

@@ -15,13 +15,13 @@ ghost use Rattle.type_ref.specs.Promises.{Promise-type};
 ghost use Rattle.type_ref.specs.MirrorCode.{NamedAs, TypedAs};
 use constraints::Decision;
 use constraints::is_supertype_in;
-use declarations::number_for;
 use lookup::Sought;
 use named_types::Walked;
 use named_types::is_enumeration;
 use named_types::walk;
 use query::read_path;
 use refusal::Refusal;
+use resolving::number_for;
 use scope::Path;
 use sheet::Reading;
 

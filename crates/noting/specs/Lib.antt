@@ -1,0 +1,3 @@
+-- The meaning, then the mirror.
+pub mod MeaningNames
+pub mod MirrorNoted
