@@ -9,7 +9,7 @@ ghost use lib.Seq.{paste};
 ghost use Rattle.complex_entity.specs.MeaningParts.{order, lex, hasName, contains, dedup, badAfter, newOf};
 ghost use Rattle.complex_entity.specs.MeaningRows.{rowOf};
 ghost use Rattle.complex_entity.specs.Told.{toldOrder};
-ghost use Rattle.complex_entity.specs.MirrorParts.{namesOf, partOf, narrowOf, madeOf, merge, partAt, spottedOf};
+ghost use Rattle.complex_entity.specs.MirrorParts.{namesOf, partOf, narrowOf, madeOf, merge, turnOf, partAt, spottedOf};
 ghost use Rattle.complex_entity.specs.declared.Verdict.the-variants.{Done, Refused};
 ghost use Rattle.refusal.specs.MeaningAnswer.{refused};
 use refusal::Refusal;
@@ -25,6 +25,12 @@ pub enum Order {
 pub enum Spotted {
     At(usize),
     Nowhere,
+}
+
+// What a turn of a walk through two lists of names takes, and where each list is read on from then.
+enum Turn {
+    Name(u16, usize, usize),
+    End,
 }
 
 // Whether a part could be made.
@@ -241,7 +247,7 @@ impl PartialComplexEntity {
         Self::joined(&rows[first..], n, &others[second..], m)
     }
 
-    // Two lists of names are walked together: each turn takes the least name that is left.
+    // Two lists of names are walked together, and the names that are taken make the part.
     fn joined(left: &[u16], n: usize, right: &[u16], m: usize) -> Made
         requires { ⌜ (n ≤ length (now left)) × (m ≤ length (now right)) ⌝ }
         ensures { λ r. ⌜ r ≡ narrowOf (merge (take n (now (left .entry))) (take m (now (right .entry)))) ⌝ }
@@ -250,37 +256,43 @@ impl PartialComplexEntity {
         let mut i = 0;
         let mut j = 0;
         let mut k = 0;
-        while k < Self::LIMIT {
-            let at = k;
-            k += 1;
-            if i >= n {
-                if j >= m {
-                    return Self::made(at, names);
-                }
-                names[at] = right[j];
-                j += 1;
-            } else if j >= m {
-                names[at] = left[i];
-                i += 1;
-            } else if left[i] < right[j] {
-                names[at] = left[i];
-                i += 1;
-            } else if right[j] < left[i] {
-                names[at] = right[j];
-                j += 1;
-            } else {
-                names[at] = left[i];
-                i += 1;
-                j += 1;
+        loop {
+            let Turn::Name(x, next, other) = Self::turn_at(left, n, i, right, m, j) else {
+                return Self::made(k, names);
+            };
+            if k >= Self::LIMIT {
+                return Self::over();
             }
+            names[k] = x;
+            i = next;
+            j = other;
+            k += 1;
         }
-        if i < n {
-            return Self::over();
+    }
+
+    // One turn takes the least name that is left, from both lists where both have it.
+    fn turn_at(left: &[u16], n: usize, i: usize, right: &[u16], m: usize, j: usize) -> Turn
+        requires { ⌜ (n ≤ length (now left)) × (m ≤ length (now right)) ⌝ }
+        ensures { λ r. ⌜ r ≡ turnOf i j (drop i (take n (now (left .entry)))) (drop j (take m (now (right .entry)))) ⌝ }
+    {
+        if i >= n {
+            if j >= m {
+                return Turn::End;
+            }
+            return Turn::Name(right[j], i, j + 1);
         }
-        if j < m {
-            return Self::over();
+        let x = left[i];
+        if j >= m {
+            return Turn::Name(x, i + 1, j);
         }
-        Self::made(k, names)
+        let y = right[j];
+        if x < y {
+            return Turn::Name(x, i + 1, j);
+        }
+        if y < x {
+            return Turn::Name(y, i, j + 1);
+        }
+        Turn::Name(x, i + 1, j + 1)
     }
 
     // The part of the row that begins at a place.
