@@ -9,9 +9,6 @@ use Rattle.complex_entity.specs.declared.Made.{Made}
 use Rattle.complex_entity.specs.declared.Verdict.the-variants.{Done, Refused}
 use Rattle.complex_entity.specs.declared.Turn.{Turn}
 use Rattle.complex_entity.specs.declared.Turn.the-variants.{Name, End}
-use Rattle.complex_entity.specs.declared.Spotted.{Spotted}
-use Rattle.complex_entity.specs.declared.Spotted.the-variants.{At, Nowhere}
-use mathlib.Core.Option.{Option, none, some}
 
 -- the names of a part; of a count over 12 the array has the first 12
 abbrev pub namesOf : PartialComplexEntity → Part
@@ -29,11 +26,6 @@ madeOf (refused n place) = record { verdict = Refused (record { number = n; plac
 -- a part of these names is made, if they are not too many
 abbrev pub narrowOf : Part → Made
 narrowOf p = madeOf (orElse 11 (narrow p) (done p))
-
--- a place as the code gives it
-abbrev pub spottedOf : Option ℕ → Spotted
-spottedOf none = Nowhere
-spottedOf (some i) = At i
 
 -- ---- two parts walked together
 abbrev pub by : {A : Type 0} → Ordering → A → A → A → A

@@ -6,10 +6,10 @@ ghost use mathlib.Core.List.{[], _∷_};
 ghost use Prim.Native.Nat.{_+_, _≤_, min};
 ghost use lib.ListN.{length, take, drop};
 ghost use lib.Seq.{paste};
-ghost use Rattle.complex_entity.specs.MeaningParts.{order, lex, hasName, contains, dedup, badAfter, newOf};
+ghost use Rattle.complex_entity.specs.MeaningParts.{order, lex, hasName, contains};
 ghost use Rattle.complex_entity.specs.MeaningRows.{rowOf};
 ghost use Rattle.complex_entity.specs.Told.{toldOrder};
-ghost use Rattle.complex_entity.specs.MirrorParts.{namesOf, partOf, narrowOf, madeOf, merge, turnOf, partAt, spottedOf};
+ghost use Rattle.complex_entity.specs.MirrorParts.{namesOf, partOf, narrowOf, madeOf, merge, turnOf, partAt};
 ghost use Rattle.complex_entity.specs.declared.Verdict.the-variants.{Done, Refused};
 ghost use Rattle.refusal.specs.MeaningAnswer.{refused};
 use refusal::Refusal;
@@ -19,12 +19,6 @@ pub enum Order {
     Less,
     Same,
     More,
-}
-
-// The first index that `new` does not take.
-pub enum Spotted {
-    At(usize),
-    Nowhere,
 }
 
 // What a turn of a walk through two lists of names takes, and where each list is read on from then.
@@ -66,64 +60,6 @@ impl PartialComplexEntity {
         let mut names = [0u16; Self::LIMIT];
         names[0] = index;
         Self { n: 1, names }
-    }
-
-    // The part of some indices: repeats beside each other are dropped.
-    pub fn new(indices: &[u16]) -> Made
-        ensures { λ r. ⌜ r ≡ madeOf (newOf (now (indices .entry))) ⌝ }
-    {
-        if let Spotted::At(i) = Self::first_bad(indices) {
-            return Self::refused(Refusal::at(15, i));
-        }
-        Self::distinct(indices)
-    }
-
-    // The place of the first index that falls or is over the last one.
-    fn first_bad(indices: &[u16]) -> Spotted
-        ensures { λ r. ⌜ r ≡ spottedOf (badAfter 0 (now (indices .entry))) ⌝ }
-    {
-        let mut before = 0;
-        let mut i = 0;
-        while i < indices.len() {
-            let x = indices[i];
-            if x < before {
-                return Spotted::At(i);
-            }
-            if Self::LAST < x {
-                return Spotted::At(i);
-            }
-            before = x;
-            i += 1;
-        }
-        Spotted::Nowhere
-    }
-
-    // The indices without repeats beside each other.
-    fn distinct(indices: &[u16]) -> Made
-        ensures { λ r. ⌜ r ≡ narrowOf (dedup (now (indices .entry))) ⌝ }
-    {
-        let mut names = [0u16; Self::LIMIT];
-        if indices.len() == 0 {
-            return Self::made(0, names);
-        }
-        let mut last = indices[0];
-        names[0] = last;
-        let mut n = 1;
-        let mut i = 1;
-        while i < indices.len() {
-            let x = indices[i];
-            if x == last {
-                i += 1;
-            } else if n >= Self::LIMIT {
-                return Self::over();
-            } else {
-                names[n] = x;
-                last = x;
-                n += 1;
-                i += 1;
-            }
-        }
-        Self::made(n, names)
     }
 
     // Fewer names first, then the lists of names compared.
@@ -367,7 +303,8 @@ impl PartialComplexEntity {
         }
     }
 
-    fn made(n: usize, names: [u16; 12]) -> Made
+    // The part of so many names.
+    pub fn made(n: usize, names: [u16; 12]) -> Made
         ensures { λ r. ⌜ r ≡ record { verdict = Done; part = record { n = n; names = names } } ⌝ }
     {
         Made {
@@ -376,7 +313,8 @@ impl PartialComplexEntity {
         }
     }
 
-    fn refused(why: Refusal) -> Made
+    // No part.
+    pub fn refused(why: Refusal) -> Made
         ensures { λ r. ⌜ r ≡ record { verdict = Refused why; part = partOf [] } ⌝ }
     {
         Made {
@@ -389,7 +327,7 @@ impl PartialComplexEntity {
     }
 
     // Over the limit.
-    fn over() -> Made
+    pub fn over() -> Made
         ensures { λ r. ⌜ r ≡ madeOf (refused 11 0) ⌝ }
     {
         Self::refused(Refusal::of(11))

@@ -8,15 +8,16 @@ use lib.ListN.{length, getD, drop, set, replicate, drop-of-length-le}
 use borrow.Author.Tests.{le-leb, lt-leb, eq-eqb, ne-eqb}
 use Rattle.refusal.specs.declared.Refusal.{Refusal}
 use Rattle.refusal.specs.MeaningAnswer.{refused, orElse, done}
 use Rattle.complex_entity.specs.declared.Made.{Made}
-use Rattle.complex_entity.specs.declared.Spotted.{Spotted}
-use Rattle.complex_entity.specs.declared.Spotted.the-variants.{At, Nowhere}
+use Rattle.indices.specs.declared.Spotted.{Spotted}
+use Rattle.indices.specs.declared.Spotted.the-variants.{At, Nowhere}
 use Rattle.complex_entity.specs.declared.Verdict.the-variants.{Done, Refused}
 use Rattle.complex_entity.specs.MeaningParts.{narrow, after, dedup, moved, badAfter, unlessBad, newOf}
-use Rattle.complex_entity.specs.MirrorParts.{partOf, madeOf, narrowOf, spottedOf}
+use Rattle.complex_entity.specs.MirrorParts.{partOf, madeOf, narrowOf}
+use Rattle.indices.specs.MirrorIndices.{spottedOf}
 use Rattle.complex_entity.proofs.Names.{rest-cons}
 use Rattle.complex_entity.proofs.Filling.{Filling, fill-start, fill-next}
 use Rattle.complex_entity.proofs.Answers.{filled-made, filled-over, refused-is}
 
 -- a place that is counted from i on
 abbrev onward : ℕ → Option ℕ → Option ℕ

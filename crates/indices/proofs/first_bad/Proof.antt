@@ -2,10 +2,10 @@
 use Prim.Native.Nat.{_-_}
 use borrow.Author.Needs.{needs}
 use lib.ListN.{length}
 use Rattle.complex_entity.specs.MeaningParts.{badAfter}
-use Rattle.complex_entity.proofs.Indices.{Spotting, spotting}
-use Rattle.complex_entity.proofs.PartialComplexEntity.first_bad.Statement.{statement}
-use Rattle.complex_entity.proofs.PartialComplexEntity.first_bad.Tie as tie
+use Rattle.indices.proofs.Indices.{Spotting, spotting}
+use Rattle.indices.proofs.first_bad.Statement.{statement}
+use Rattle.indices.proofs.first_bad.Tie as tie
 
 abbrev Inv-loop : tie.InvT-loop
 Inv-loop indices before₀ i₀ before i = Spotting indices before i (badAfter 0 indices)

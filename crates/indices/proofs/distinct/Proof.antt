@@ -2,10 +2,10 @@
 use Prim.Native.Nat.{_-_}
 use borrow.Author.Needs.{needs}
 use lib.ListN.{length}
 use Rattle.complex_entity.specs.MeaningParts.{dedup}
-use Rattle.complex_entity.proofs.Indices.{Thinning, thinning}
-use Rattle.complex_entity.proofs.PartialComplexEntity.distinct.Statement.{statement}
-use Rattle.complex_entity.proofs.PartialComplexEntity.distinct.Tie as tie
+use Rattle.indices.proofs.Indices.{Thinning, thinning}
+use Rattle.indices.proofs.distinct.Statement.{statement}
+use Rattle.indices.proofs.distinct.Tie as tie
 
 abbrev Inv-loop : tie.InvT-loop
 Inv-loop indices names₀ last₀ n₀ i₀ names last n i = Thinning indices names last n i (dedup indices)

@@ -1,8 +1,8 @@
 -- A bad index is refused at its place; otherwise the part without repeats is made.
-use Rattle.complex_entity.proofs.Indices.{making}
+use Rattle.indices.proofs.Indices.{making}
 use borrow.Author.Needs.{needs}
-use Rattle.complex_entity.proofs.PartialComplexEntity.new.Statement.{statement}
-use Rattle.complex_entity.proofs.PartialComplexEntity.new.Tie as tie
+use Rattle.indices.proofs.new.Statement.{statement}
+use Rattle.indices.proofs.new.Tie as tie
 
 first-bad-requires : tie.Need-first-bad-requires
 first-bad-requires c κs = search needs
