@@ -4,10 +4,10 @@ use native.Mathlib.Omega.{arith}
 use borrow.Author.Needs.{needs}
 use lib.ListN.{length}
 use Rattle.complex_entity.specs.MeaningLists.{oneofOf}
 use Rattle.instantiables.specs.MirrorRows.{listsAt}
-use Rattle.instantiables.proofs.Walks.{walk-inside, Uniting, uniting, unite-next}
-use Rattle.instantiables.proofs.Instantiables.oneof.Statement.{statement}
-use Rattle.instantiables.proofs.Instantiables.oneof.Tie as tie
+use Rattle.several.proofs.Walks.{walk-inside, Uniting, uniting, unite-next}
+use Rattle.several.proofs.oneof.Statement.{statement}
+use Rattle.several.proofs.oneof.Tie as tie
 
 abbrev Inv-loop : tie.InvT-loop
 Inv-loop rows₀ counts lists list₀ at₀ i₀ rows list at i = Uniting counts lists rows₀ rows (list .count) at i (oneofOf (listsAt counts lists))

@@ -3,9 +3,9 @@ use borrow.Author.Needs.{needs}
 use Rattle.complex_entity.specs.MeaningLists.{any, equal}
 use Rattle.complex_entity.specs.MirrorParts.{namesOf}
 use Rattle.rows.specs.MirrorRows.{partsAt}
-use Rattle.instantiables.proofs.Seeking.{Seeking, seeking}
-use Rattle.instantiables.proofs.Instantiables.has.Statement.{statement}
-use Rattle.instantiables.proofs.Instantiables.has.Tie as tie
+use Rattle.keeping.proofs.Seeking.{Seeking, seeking}
+use Rattle.keeping.proofs.has.Statement.{statement}
+use Rattle.keeping.proofs.has.Tie as tie
 
 abbrev Inv-loop : tie.InvT-loop
 Inv-loop rows part at₀ left₀ at left = Seeking (equal (namesOf part)) rows at left (any (equal (namesOf part)) (partsAt left₀ rows))

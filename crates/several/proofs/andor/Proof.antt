@@ -4,11 +4,11 @@ use native.Mathlib.Omega.{arith}
 use borrow.Author.Needs.{needs}
 use lib.ListN.{length}
 use Rattle.complex_entity.specs.MeaningLists.{andorOf}
 use Rattle.instantiables.specs.MirrorRows.{listsAt}
-use Rattle.instantiables.proofs.Walks.{walk-inside}
-use Rattle.instantiables.proofs.Choosing.{Choosing, choosing, choose-next}
-use Rattle.instantiables.proofs.Instantiables.andor.Statement.{statement}
-use Rattle.instantiables.proofs.Instantiables.andor.Tie as tie
+use Rattle.several.proofs.Walks.{walk-inside}
+use Rattle.several.proofs.Choosing.{Choosing, choosing, choose-next}
+use Rattle.several.proofs.andor.Statement.{statement}
+use Rattle.several.proofs.andor.Tie as tie
 
 abbrev Inv-loop : tie.InvT-loop
 Inv-loop rows₀ counts lists scratch₀ list₀ at₀ i₀ rows scratch list at i = Choosing counts lists rows₀ scratch₀ rows scratch (list .count) at i (andorOf (listsAt counts lists))

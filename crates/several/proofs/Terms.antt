@@ -14,16 +14,16 @@ use Rattle.complex_entity.proofs.Sets.{tidy-old, tidy-rising}
 use Rattle.complex_entity.proofs.Orders.{part-order}
 use Rattle.complex_entity.proofs.Members.{joined, joins-old, join-rising}
 use Rattle.complex_entity.proofs.Limits.{held-done}
 use Rattle.instantiables.specs.declared.Instantiables.{Instantiables}
 use Rattle.instantiables.specs.declared.Listed.{Listed}
 use Rattle.instantiables.specs.declared.Listed.the-variants.{Rows, Refused}
 use Rattle.rows.specs.MirrorRows.{partsAt, Stands}
 use Rattle.instantiables.specs.MirrorRows.{listsAt, sum, Sets, AllSets, Listing}
 use Rattle.instantiables.specs.Told.{toldListed}
 use Rattle.rows.proofs.Flats.{parts-length}
-use Rattle.instantiables.proofs.Listings.{stands-put, put-parts, put-long, put-stands, Got, listing-got, listing-over, listing-refused, listing-done}
+use Rattle.instantiables.proofs.Listings.{tail-is, stands-put, put-parts, put-long, put-stands, Got, listing-got, listing-over, listing-refused, listing-done}
 use Rattle.instantiables.proofs.Factors.{copied, copied-room, copied-sets}
-use Rattle.instantiables.proofs.Walks.{tail-is, Walking, rest, walk-start, walk-done, walk-first, walk-next}
+use Rattle.several.proofs.Walks.{Walking, rest, walk-start, walk-done, walk-first, walk-next}
 
 pub bitand-sets : (L K : List Part) → Sets (bitand L K)
 bitand-sets L K q m = elim (joins-old L K (tidy-old part-order (joins L K) m)) [ joined {p = a} {q = b} i j e ↦ rw e (join-rising a b) ]

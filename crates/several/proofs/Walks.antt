@@ -5,23 +5,19 @@ use mathlib.Core.List.{List, [], _∷_, _++_, flatten}
 use native.Mathlib.Omega.{arith}
 use native.Mathlib.Numerals.{add-one}
 use lib.ListN.{length, getD, take, drop, length-drop, drop-of-length-le}
-use lib.Seq.{drop-cons, drop-drop, take-all}
+use lib.Seq.{drop-cons, drop-drop}
 use Rattle.refusal.specs.MeaningAnswer.{Answer, done}
 use Rattle.refusal.specs.declared.Refusal.{Refusal}
 use Rattle.complex_entity.specs.MeaningParts.{Part}
 use Rattle.complex_entity.specs.MeaningLists.{add, held, oneofOf}
 use Rattle.instantiables.specs.declared.Instantiables.{Instantiables}
 use Rattle.instantiables.specs.declared.Listed.{Listed}
 use Rattle.instantiables.specs.declared.Listed.the-variants.{Rows, Refused}
 use Rattle.rows.specs.MirrorRows.{partsAt, Stands}
 use Rattle.instantiables.specs.MirrorRows.{listsAt, sum, Listing}
 use Rattle.instantiables.specs.Told.{toldListed}
-use Rattle.instantiables.proofs.Listings.{stands-empty}
+use Rattle.instantiables.proofs.Listings.{tail-is, stands-empty}
 use Rattle.instantiables.proofs.Growing.{Growing, grow-start, grow-done, grow-next, grow-over}
-
--- what is left of a slice from a place on, as it is lent
-pub tail-is : (l : List ℕ) (a : ℕ) → take (length l - a) (drop a l) ≡ drop a l
-tail-is l a = take-all (length l - a) (drop a l) (omega (arith, length-drop a l))
 
 -- ---- the lists from the one with number i on begin at `at`
 pub record Walking (counts lists : List ℕ) (at i : ℕ) : Type 0 where

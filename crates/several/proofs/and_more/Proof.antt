@@ -5,11 +5,11 @@ use borrow.Author.Needs.{needs}
 use lib.ListN.{length}
 use Rattle.complex_entity.specs.MeaningLists.{prefixes}
 use Rattle.rows.specs.MirrorRows.{partsAt}
 use Rattle.instantiables.specs.MirrorRows.{listsAt}
-use Rattle.instantiables.proofs.Walks.{walk-inside, walk-room}
-use Rattle.instantiables.proofs.Terms.{Prefixing, prefixing, prefix-copied, prefix-sets, prefix-term, prefix-next}
-use Rattle.instantiables.proofs.Instantiables.and_more.Statement.{statement}
-use Rattle.instantiables.proofs.Instantiables.and_more.Tie as tie
+use Rattle.several.proofs.Walks.{walk-inside, walk-room}
+use Rattle.several.proofs.Terms.{Prefixing, prefixing, prefix-copied, prefix-sets, prefix-term, prefix-next}
+use Rattle.several.proofs.and_more.Statement.{statement}
+use Rattle.several.proofs.and_more.Tie as tie
 
 abbrev Inv-loop : tie.InvT-loop
 Inv-loop rows₀ counts lists scratch₀ list₀ at₀ i₀ rows scratch list at i = Prefixing counts lists rows₀ scratch₀ rows scratch (list .count) at i (prefixes (partsAt (list₀ .count) rows₀) (listsAt counts lists))

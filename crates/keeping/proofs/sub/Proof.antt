@@ -3,9 +3,9 @@ use borrow.Author.Needs.{needs}
 use Rattle.complex_entity.proofs.Rows.{padded-part}
 use Rattle.rows.specs.MirrorRows.{partsAt}
 use Rattle.complex_entity.specs.MeaningLists.{sub}
-use Rattle.instantiables.proofs.Keeping.{Keeping, keeping, left-out, sub-start, sub-drop, sub-keep}
-use Rattle.instantiables.proofs.Instantiables.sub.Statement.{statement}
-use Rattle.instantiables.proofs.Instantiables.sub.Tie as tie
+use Rattle.keeping.proofs.Keeping.{Keeping, keeping, left-out, sub-start, sub-drop, sub-keep}
+use Rattle.keeping.proofs.sub.Statement.{statement}
+use Rattle.keeping.proofs.sub.Tie as tie
 
 abbrev Inv-loop : tie.InvT-loop
 Inv-loop rows₀ other others kept₀ to₀ at₀ left₀ rows kept to at left = Keeping (left-out (partsAt (other .count) others)) rows₀ rows kept to at left (sub (partsAt left₀ rows₀) (partsAt (other .count) others))

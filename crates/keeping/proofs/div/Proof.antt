@@ -3,9 +3,9 @@ use borrow.Author.Needs.{needs}
 use Rattle.complex_entity.proofs.Rows.{padded-part}
 use Rattle.rows.specs.MirrorRows.{partsAt}
 use Rattle.complex_entity.specs.MeaningLists.{div}
-use Rattle.instantiables.proofs.Keeping.{Keeping, keeping, covering, div-start, div-keep, div-drop}
-use Rattle.instantiables.proofs.Instantiables.div.Statement.{statement}
-use Rattle.instantiables.proofs.Instantiables.div.Tie as tie
+use Rattle.keeping.proofs.Keeping.{Keeping, keeping, covering, div-start, div-keep, div-drop}
+use Rattle.keeping.proofs.div.Statement.{statement}
+use Rattle.keeping.proofs.div.Tie as tie
 
 abbrev Inv-loop : tie.InvT-loop
 Inv-loop rows₀ other others kept₀ to₀ at₀ left₀ rows kept to at left = Keeping (covering (partsAt (other .count) others)) rows₀ rows kept to at left (div (partsAt left₀ rows₀) (partsAt (other .count) others))

@@ -4,9 +4,9 @@ use Rattle.complex_entity.specs.MeaningParts.{contains}
 use Rattle.complex_entity.specs.MeaningLists.{any}
 use Rattle.complex_entity.specs.MirrorParts.{namesOf}
 use Rattle.rows.specs.MirrorRows.{partsAt}
-use Rattle.instantiables.proofs.Seeking.{Seeking, seeking}
-use Rattle.instantiables.proofs.Instantiables.some_in.Statement.{statement}
-use Rattle.instantiables.proofs.Instantiables.some_in.Tie as tie
+use Rattle.keeping.proofs.Seeking.{Seeking, seeking}
+use Rattle.keeping.proofs.some_in.Statement.{statement}
+use Rattle.keeping.proofs.some_in.Tie as tie
 
 abbrev Inv-loop : tie.InvT-loop
 Inv-loop rows part at₀ left₀ at left = Seeking (contains (namesOf part)) rows at left (any (contains (namesOf part)) (partsAt left₀ rows))

@@ -17,16 +17,16 @@ use Rattle.complex_entity.proofs.Sets.{not-in-nil}
 use Rattle.complex_entity.proofs.Members.{∈-append-cases, add-old, joined, joins-old, join-rising}
 use Rattle.complex_entity.proofs.Limits.{orElse-yes, orElse-no, held-less}
 use Rattle.complex_entity.proofs.Choices.{grown-rising, andor-from-rising, andor-from-more, andor-steps}
 use Rattle.instantiables.specs.declared.Instantiables.{Instantiables}
 use Rattle.instantiables.specs.declared.Listed.{Listed}
 use Rattle.instantiables.specs.declared.Listed.the-variants.{Rows, Refused}
 use Rattle.rows.specs.MirrorRows.{partsAt, Stands}
 use Rattle.instantiables.specs.MirrorRows.{listsAt, sum, Sets, AllSets, Listing}
 use Rattle.instantiables.specs.Told.{toldListed}
 use Rattle.rows.proofs.Flats.{parts-length}
-use Rattle.instantiables.proofs.Listings.{stands-empty, Front, front-start, front-next, front-parts, listing-over, listing-refused, listing-same}
+use Rattle.instantiables.proofs.Listings.{tail-is, stands-empty, Front, front-start, front-next, front-parts, listing-over, listing-refused, listing-same}
 use Rattle.instantiables.proofs.Growing.{add-longer}
-use Rattle.instantiables.proofs.Walks.{tail-is, Walking, rest, walk-start, walk-done, walk-first, walk-next, walk-room}
+use Rattle.several.proofs.Walks.{Walking, rest, walk-start, walk-done, walk-first, walk-next, walk-room}
 
 -- ---- a factor more
 grown-sets : (L T : List Part) → Sets L → Sets T → Sets (grown L T)

@@ -1,9 +1,9 @@
 -- `and` meets its contract: the first two terms are joined, then the further ones.
 use native.Mathlib.Omega.{arith}
 use borrow.Author.Needs.{needs}
-use Rattle.instantiables.proofs.Terms.{anding, and-inside, and-first, and-second, and-further, and-first-sets, and-second-sets, and-further-sets, and-over, and-stands, and-sets, and-done}
-use Rattle.instantiables.proofs.Instantiables.and.Statement.{statement}
-use Rattle.instantiables.proofs.Instantiables.and.Tie as tie
+use Rattle.several.proofs.Terms.{anding, and-inside, and-first, and-second, and-further, and-first-sets, and-second-sets, and-further-sets, and-over, and-stands, and-sets, and-done}
+use Rattle.several.proofs.and.Statement.{statement}
+use Rattle.several.proofs.and.Tie as tie
 
 refused-requires : tie.Need-refused-requires
 refused-requires c κs = search (anding, needs)
