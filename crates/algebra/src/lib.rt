@@ -36,7 +36,7 @@ pub enum Compared {
 pub fn new(indices: &[u16], out: &mut [u16]) -> Listed
     ensures { λ r. ⌜ Promise-new (now (indices .entry)) (now (out .entry)) r (now (out .exit)) ⌝ }
 {
-    let made = PartialComplexEntity::new(indices);
+    let made = indices::new(indices);
     let verdict = made.verdict;
     if let Verdict::Refused(why) = verdict {
         return Listed::Refused(why);

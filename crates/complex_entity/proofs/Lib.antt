@@ -14,5 +14,4 @@ pub mod Lending
 pub mod Precedence
 pub mod Answers
 pub mod Together
-pub mod Indices
 pub mod Rows

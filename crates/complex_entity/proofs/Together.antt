@@ -1,107 +1,125 @@
--- The loop that joins two parts: one turn takes the least name that is left.
+-- The walk that joins two parts: a turn takes the least name that is left.
 use Prim.Native.Nat.{ℕ, _+_, _-_, _≤_, _<_, compare, Ordering, Ordering·lt, Ordering·eq, Ordering·gt}
-use mathlib.Core.Path.{_≡_, refl, sym, ap}
+use mathlib.Core.Path.{_≡_, refl, sym, ap, _∙_}
 use mathlib.Core.List.{List, [], _∷_}
 use native.Mathlib.Omega.{arith}
 use lib.ListN.{length, getD, take, drop, set, replicate}
+use lib.Seq.{drop-drop}
 use Rattle.refusal.specs.MeaningAnswer.{refused}
 use Rattle.complex_entity.specs.declared.Made.{Made}
 use Rattle.complex_entity.specs.declared.PartialComplexEntity.{PartialComplexEntity}
+use Rattle.complex_entity.specs.declared.Turn.{Turn}
+use Rattle.complex_entity.specs.declared.Turn.the-variants.{Name, End}
 use Rattle.complex_entity.specs.declared.Verdict.the-variants.{Done}
 use Rattle.complex_entity.specs.MeaningParts.{Part}
-use Rattle.complex_entity.specs.MirrorParts.{namesOf, partAt, madeOf, narrowOf, by, merge}
+use Rattle.complex_entity.specs.MirrorParts.{namesOf, partAt, madeOf, narrowOf, by, merge, turnOf}
 use Rattle.complex_entity.proofs.Orders.{lt→cmp, gt→cmp, compare-self}
 use Rattle.complex_entity.proofs.Filling.{Filling, fill-start, fill-next}
 use Rattle.complex_entity.proofs.Names.{front-cons, front-end}
 use Rattle.complex_entity.proofs.Lending.{names-are, row-names}
 use Rattle.complex_entity.proofs.Answers.{filled-made, filled-over}
 
-pub merge-nil : (xs : Part) → merge xs [] ≡ xs
+-- ---- one turn
+module _ (l r : List ℕ) (n m i j : ℕ) where
+  pub turn-end : n ≤ i → m ≤ j → End ≡ turnOf i j (drop i (take n l)) (drop j (take m r))
+  unfolding turnOf
+  turn-end h g = rw (front-end l n i h, front-end r m j g)
+
+  pub turn-only-right : m ≤ length r → n ≤ i → j < m → Name (getD r j 0) i (j + 1) ≡ turnOf i j (drop i (take n l)) (drop j (take m r))
+  unfolding turnOf
+  turn-only-right b h g = rw (front-end l n i h, front-cons r m j b g)
+
+  module _ (a : n ≤ length l) (h : i < n) where
+    pub turn-only-left : m ≤ j → Name (getD l i 0) (i + 1) j ≡ turnOf i j (drop i (take n l)) (drop j (take m r))
+    unfolding turnOf
+    turn-only-left g = rw (front-cons l n i a h, front-end r m j g)
+
+    module _ (b : m ≤ length r) (g : j < m) where
+      pub turn-left : getD l i 0 < getD r j 0 → Name (getD l i 0) (i + 1) j ≡ turnOf i j (drop i (take n l)) (drop j (take m r))
+      unfolding turnOf
+      turn-left w = rw (front-cons l n i a h, front-cons r m j b g, lt→cmp (getD l i 0) (getD r j 0) w)
+
+      pub turn-right : getD r j 0 < getD l i 0 → Name (getD r j 0) i (j + 1) ≡ turnOf i j (drop i (take n l)) (drop j (take m r))
+      unfolding turnOf
+      turn-right w = rw (front-cons l n i a h, front-cons r m j b g, gt→cmp (getD l i 0) (getD r j 0) w)
+
+      pub turn-both : getD r j 0 ≤ getD l i 0 → getD l i 0 ≤ getD r j 0 → Name (getD l i 0) (i + 1) (j + 1) ≡ turnOf i j (drop i (take n l)) (drop j (take m r))
+      unfolding turnOf
+      turn-both w w′ =
+          let e : getD l i 0 ≡ getD r j 0 = omega arith in
+          rw (front-cons l n i a h, front-cons r m j b g, e, compare-self (getD r j 0))
+
+pub ruleset turning = (turn-end, turn-only-right, turn-only-left, turn-left, turn-right, turn-both)
+
+-- ---- the walk
+
+-- what a part is from i on: its first name, and what it is from the next on
+rest-tail : (L xs : Part) (i x : ℕ) → drop i L ≡ x ∷ xs → drop (i + 1) L ≡ xs
+rest-tail L xs i x e = sym (drop-drop 1 i L) ∙ ap (drop 1) e
+
+-- a turn that ends has nothing left to merge, and one that takes a name takes the first of what is left
+turn-ends : (i j : ℕ) (xs ys : Part) → turnOf i j xs ys ≡ End → merge xs ys ≡ []
+unfolding turnOf merge
+turn-ends i j [] [] e = refl
+turn-ends i j [] (y ∷ ys) e = cc
+turn-ends i j (x ∷ xs) [] e = cc
+turn-ends i j (x ∷ xs) (y ∷ ys) e = go (compare x y) e
+  where
+    go : (o : Ordering) → by o (Name x (i + 1) j) (Name x (i + 1) (j + 1)) (Name y i (j + 1)) ≡ End
+        → by o (x ∷ merge xs (y ∷ ys)) (x ∷ merge xs ys) (y ∷ merge (x ∷ xs) ys) ≡ []
+    go Ordering·lt e = cc
+    go Ordering·eq e = cc
+    go Ordering·gt e = cc
+
+merge-nil : (xs : Part) → merge xs [] ≡ xs
 unfolding merge
 merge-nil [] = refl
 merge-nil (x ∷ xs) = refl
 
--- the merge has a name, if the first of the two has
-merge-some : (x : ℕ) (xs ys : Part) → 0 < length (merge (x ∷ xs) ys)
-unfolding merge
-merge-some x xs [] = omega arith
-merge-some x xs (y ∷ ys) = go (compare x y)
+turn-takes : (L R xs ys : Part) (i j x i′ j′ : ℕ) → drop i L ≡ xs → drop j R ≡ ys → turnOf i j xs ys ≡ Name x i′ j′
+    → merge xs ys ≡ x ∷ merge (drop i′ L) (drop j′ R)
+unfolding turnOf merge
+turn-takes L R xs ys i j x i′ j′ a b e = go xs ys a b e
   where
-    go : (o : Ordering) → 0 < length (by o (x ∷ merge xs (y ∷ ys)) (x ∷ merge xs ys) (y ∷ merge (x ∷ xs) ys))
-    go Ordering·lt = omega arith
-    go Ordering·eq = omega arith
-    go Ordering·gt = omega arith
+    same : (z p q : ℕ) (t : Part) → Name z p q ≡ Name x i′ j′ → t ≡ z ∷ merge (drop p L) (drop q R) → t ≡ x ∷ merge (drop i′ L) (drop j′ R)
+    same z p q t d w = cc
 
--- what is left to merge, from i in the first n of a list and from j in the first m of another
-unfoldable pub left : List ℕ → List ℕ → ℕ → ℕ → ℕ → ℕ → Part
-left l r n m i j = merge (drop i (take n l)) (drop j (take m r))
+    go : (xs ys : Part) → drop i L ≡ xs → drop j R ≡ ys → turnOf i j xs ys ≡ Name x i′ j′ → merge xs ys ≡ x ∷ merge (drop i′ L) (drop j′ R)
+    go [] [] a b e = cc
+    go [] (y ∷ ys) a b e = same y i (j + 1) _ e (rw (a, rest-tail R ys j y b))
+    go (z ∷ zs) [] a b e = same z (i + 1) j _ e (rw (rest-tail L zs i z a, b, merge-nil zs))
+    go (z ∷ zs) (y ∷ ys) a b e = both (compare z y) e
+      where
+        both : (o : Ordering) → by o (Name z (i + 1) j) (Name z (i + 1) (j + 1)) (Name y i (j + 1)) ≡ Name x i′ j′
+            → by o (z ∷ merge zs (y ∷ ys)) (z ∷ merge zs ys) (y ∷ merge (z ∷ zs) ys) ≡ x ∷ merge (drop i′ L) (drop j′ R)
+        both Ordering·lt e = same z (i + 1) j _ e (rw (rest-tail L zs i z a, b))
+        both Ordering·eq e = same z (i + 1) (j + 1) _ e (rw (rest-tail L zs i z a, rest-tail R ys j y b))
+        both Ordering·gt e = same y i (j + 1) _ e (rw (a, rest-tail R ys j y b))
 
 -- i of the n names are taken, and j of the m: what was taken stands in out, and the merge is t
 pub record Joining (l r : List ℕ) (n m i j k : ℕ) (out t : List ℕ) : Type 0 where
-  pub inLeft : n ≤ length l
-  pub inRight : m ≤ length r
-  pub fill : Filling 12 0 k out (left l r n m i j) t
+  pub fill : Filling 12 0 k out (merge (drop i (take n l)) (drop j (take m r))) t
 
-module _ (l r : List ℕ) (n m : ℕ) where
-  pub join-start : n ≤ length l → m ≤ length r → Joining l r n m 0 0 0 (replicate 12 0) (merge (take n l) (take m r))
-  unfolding left
-  join-start h g = record { inLeft = h; inRight = g; fill = fill-start 12 0 (merge (take n l) (take m r)) }
+pub join-start : (l r : List ℕ) (n m : ℕ) → Joining l r n m 0 0 0 (replicate 12 0) (merge (take n l) (take m r))
+join-start l r n m = record { fill = fill-start 12 0 (merge (take n l) (take m r)) }
 
-  module _ (i j k : ℕ) (out t : List ℕ) (f : Joining l r n m i j k out t) where
-    take-one : (i′ j′ x : ℕ) → k < 12 → left l r n m i j ≡ x ∷ left l r n m i′ j′ → Joining l r n m i′ j′ (k + 1) (set out k x) t
-    take-one i′ j′ x h e = record { inLeft = f .inLeft; inRight = f .inRight; fill = fill-next 12 0 k out _ _ t x (f .fill) h e }
+module _ (l r : List ℕ) (n m i j k : ℕ) (out t : List ℕ) (f : Joining l r n m i j k out t) (s : Turn)
+    (e : s ≡ turnOf i j (drop i (take n l)) (drop j (take m r))) where
+  pub join-done : (o : Made) → s ≡ End → o ≡ record { verdict = Done; part = record { n = k; names = out } } → o ≡ narrowOf t
+  join-done o u v = filled-made k out _ t o (f .fill) (turn-ends i j _ _ (sym e ∙ u)) v
 
-    pub join-in-left : i < n → i < length l
-    join-in-left h = omega (arith, f .inLeft)
+  module _ (x i′ j′ : ℕ) (u : s ≡ Name x i′ j′) where
+    taken : merge (drop i (take n l)) (drop j (take m r)) ≡ x ∷ merge (drop i′ (take n l)) (drop j′ (take m r))
+    taken = turn-takes (take n l) (take m r) _ _ i j x i′ j′ refl refl (sym e ∙ u)
 
-    pub join-in-right : j < m → j < length r
-    join-in-right h = omega (arith, f .inRight)
+    pub join-next : k < 12 → Joining l r n m i′ j′ (k + 1) (set out k x) t
+    join-next h = record { fill = fill-next 12 0 k out _ _ t x (f .fill) h taken }
 
-    pub join-left : i < n → j < m → k < 12 → getD l i 0 < getD r j 0 → Joining l r n m (i + 1) j (k + 1) (set out k (getD l i 0)) t
-    unfolding left merge
-    join-left h g hk w =
-        take-one (i + 1) j _ hk (rw (front-cons l n i (f .inLeft) h, front-cons r m j (f .inRight) g, lt→cmp (getD l i 0) (getD r j 0) w) refl)
+    -- a thirteenth name is left
+    pub join-over : (o : Made) → 12 ≤ k → o ≡ madeOf (refused 11 0) → o ≡ narrowOf t
+    join-over o h v = filled-over k out _ t o (f .fill) h (rw taken (omega arith)) v
 
-    pub join-right : i < n → j < m → k < 12 → getD r j 0 < getD l i 0 → Joining l r n m i (j + 1) (k + 1) (set out k (getD r j 0)) t
-    unfolding left merge
-    join-right h g hk w =
-        take-one i (j + 1) _ hk (rw (front-cons l n i (f .inLeft) h, front-cons r m j (f .inRight) g, gt→cmp (getD l i 0) (getD r j 0) w) refl)
-
-    pub join-both : i < n → j < m → k < 12 → getD r j 0 ≤ getD l i 0 → getD l i 0 ≤ getD r j 0
-        → Joining l r n m (i + 1) (j + 1) (k + 1) (set out k (getD l i 0)) t
-    unfolding left merge
-    join-both h g hk w w′ =
-        let e : getD l i 0 ≡ getD r j 0 = omega arith in
-        take-one (i + 1) (j + 1) _ hk (rw (front-cons l n i (f .inLeft) h, front-cons r m j (f .inRight) g, e, compare-self (getD r j 0)) refl)
-
-    -- one of the two is used up
-    pub join-only-left : i < n → m ≤ j → k < 12 → Joining l r n m (i + 1) j (k + 1) (set out k (getD l i 0)) t
-    unfolding left merge
-    join-only-left h g hk =
-        take-one (i + 1) j _ hk (rw (front-cons l n i (f .inLeft) h, front-end r m j g) (ap (λ (x : Part). getD l i 0 ∷ x) (sym (merge-nil (drop (i + 1) (take n l))))))
-
-    pub join-only-right : n ≤ i → j < m → k < 12 → Joining l r n m i (j + 1) (k + 1) (set out k (getD r j 0)) t
-    unfolding left merge
-    join-only-right h g hk = take-one i (j + 1) _ hk (rw (front-end l n i h, front-cons r m j (f .inRight) g) refl)
-
-    module _ (o : Made) where
-      -- both are used up
-      pub join-done : n ≤ i → m ≤ j → o ≡ record { verdict = Done; part = record { n = k; names = out } } → o ≡ narrowOf t
-      unfolding left merge
-      join-done h g e = filled-made k out _ t o (f .fill) (rw (front-end l n i h) (front-end r m j g)) e
-
-      -- a thirteenth name is left
-      pub join-over-left : i < n → 12 ≤ k → o ≡ madeOf (refused 11 0) → o ≡ narrowOf t
-      unfolding left
-      join-over-left h hk e =
-          filled-over k out _ t o (f .fill) hk
-          (rw (front-cons l n i (f .inLeft) h) (merge-some (getD l i 0) (drop (i + 1) (take n l)) (drop j (take m r)))) e
-
-      pub join-over-right : n ≤ i → j < m → 12 ≤ k → o ≡ madeOf (refused 11 0) → o ≡ narrowOf t
-      unfolding left merge
-      join-over-right h g hk e = filled-over k out _ t o (f .fill) hk (rw (front-end l n i h, front-cons r m j (f .inRight) g) (omega arith)) e
-
-pub ruleset joining = (join-start, join-in-left, join-in-right, join-left, join-right, join-both, join-only-left, join-only-right, join-done, join-over-left, join-over-right)
+pub ruleset joining = (join-start, join-done, join-next, join-over)
 
 -- ---- the names of two parts, and of two rows
 pub join-parts : (p q : PartialComplexEntity) (n m : ℕ) (o : Made) → n ≡ length (namesOf p) → m ≡ length (namesOf q)

@@ -1,15 +1,14 @@
 -- Parts as the code has them.
 use mathlib.Core.List.{List, [], _∷_, _++_}
-use Prim.Native.Nat.{ℕ, _-_, compare, Ordering, Ordering·lt, Ordering·eq, Ordering·gt}
+use Prim.Native.Nat.{ℕ, _+_, _-_, compare, Ordering, Ordering·lt, Ordering·eq, Ordering·gt}
 use lib.ListN.{length, getD, take, drop, replicate}
 use Rattle.refusal.specs.MeaningAnswer.{Answer, done, refused, orElse}
 use Rattle.complex_entity.specs.MeaningParts.{Part, most-names, narrow}
 use Rattle.complex_entity.specs.declared.PartialComplexEntity.{PartialComplexEntity}
 use Rattle.complex_entity.specs.declared.Made.{Made}
 use Rattle.complex_entity.specs.declared.Verdict.the-variants.{Done, Refused}
-use Rattle.complex_entity.specs.declared.Spotted.{Spotted}
-use Rattle.complex_entity.specs.declared.Spotted.the-variants.{At, Nowhere}
-use mathlib.Core.Option.{Option, none, some}
+use Rattle.complex_entity.specs.declared.Turn.{Turn}
+use Rattle.complex_entity.specs.declared.Turn.the-variants.{Name, End}
 
 -- the names of a part; of a count over 12 the array has the first 12
 abbrev pub namesOf : PartialComplexEntity → Part
@@ -28,11 +27,6 @@ madeOf (refused n place) = record { verdict = Refused (record { number = n; plac
 abbrev pub narrowOf : Part → Made
 narrowOf p = madeOf (orElse 11 (narrow p) (done p))
 
--- a place as the code gives it
-abbrev pub spottedOf : Option ℕ → Spotted
-spottedOf none = Nowhere
-spottedOf (some i) = At i
-
 -- ---- two parts walked together
 abbrev pub by : {A : Type 0} → Ordering → A → A → A → A
 by Ordering·lt a b c = a
@@ -43,6 +37,13 @@ unfoldable pub merge : Part → Part → Part
 merge [] ys = ys
 merge (x ∷ xs) [] = x ∷ xs
 merge (x ∷ xs) (y ∷ ys) = by (compare x y) (x ∷ merge xs (y ∷ ys)) (x ∷ merge xs ys) (y ∷ merge (x ∷ xs) ys)
+
+-- one turn: the first name of the merge, and where each part is read on from then, if i and j are read
+unfoldable pub turnOf : ℕ → ℕ → Part → Part → Turn
+turnOf i j [] [] = End
+turnOf i j [] (y ∷ ys) = Name y i (j + 1)
+turnOf i j (x ∷ xs) [] = Name x (i + 1) j
+turnOf i j (x ∷ xs) (y ∷ ys) = by (compare x y) (Name x (i + 1) j) (Name x (i + 1) (j + 1)) (Name y i (j + 1))
 
 -- the part of the row that a list of numbers begins with
 abbrev pub partAt : List ℕ → Part

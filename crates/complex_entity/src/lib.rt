@@ -6,10 +6,10 @@ ghost use mathlib.Core.List.{[], _∷_};
 ghost use Prim.Native.Nat.{_+_, _≤_, min};
 ghost use lib.ListN.{length, take, drop};
 ghost use lib.Seq.{paste};
-ghost use Rattle.complex_entity.specs.MeaningParts.{order, lex, hasName, contains, dedup, badAfter, newOf};
+ghost use Rattle.complex_entity.specs.MeaningParts.{order, lex, hasName, contains};
 ghost use Rattle.complex_entity.specs.MeaningRows.{rowOf};
 ghost use Rattle.complex_entity.specs.Told.{toldOrder};
-ghost use Rattle.complex_entity.specs.MirrorParts.{namesOf, partOf, narrowOf, madeOf, merge, partAt, spottedOf};
+ghost use Rattle.complex_entity.specs.MirrorParts.{namesOf, partOf, narrowOf, madeOf, merge, turnOf, partAt};
 ghost use Rattle.complex_entity.specs.declared.Verdict.the-variants.{Done, Refused};
 ghost use Rattle.refusal.specs.MeaningAnswer.{refused};
 use refusal::Refusal;
@@ -21,10 +21,10 @@ pub enum Order {
     More,
 }
 
-// The first index that `new` does not take.
-pub enum Spotted {
-    At(usize),
-    Nowhere,
+// What a turn of a walk through two lists of names takes, and where each list is read on from then.
+enum Turn {
+    Name(u16, usize, usize),
+    End,
 }
 
 // Whether a part could be made.
@@ -60,64 +60,6 @@ impl PartialComplexEntity {
         let mut names = [0u16; Self::LIMIT];
         names[0] = index;
         Self { n: 1, names }
-    }
-
-    // The part of some indices: repeats beside each other are dropped.
-    pub fn new(indices: &[u16]) -> Made
-        ensures { λ r. ⌜ r ≡ madeOf (newOf (now (indices .entry))) ⌝ }
-    {
-        if let Spotted::At(i) = Self::first_bad(indices) {
-            return Self::refused(Refusal::at(15, i));
-        }
-        Self::distinct(indices)
-    }
-
-    // The place of the first index that falls or is over the last one.
-    fn first_bad(indices: &[u16]) -> Spotted
-        ensures { λ r. ⌜ r ≡ spottedOf (badAfter 0 (now (indices .entry))) ⌝ }
-    {
-        let mut before = 0;
-        let mut i = 0;
-        while i < indices.len() {
-            let x = indices[i];
-            if x < before {
-                return Spotted::At(i);
-            }
-            if Self::LAST < x {
-                return Spotted::At(i);
-            }
-            before = x;
-            i += 1;
-        }
-        Spotted::Nowhere
-    }
-
-    // The indices without repeats beside each other.
-    fn distinct(indices: &[u16]) -> Made
-        ensures { λ r. ⌜ r ≡ narrowOf (dedup (now (indices .entry))) ⌝ }
-    {
-        let mut names = [0u16; Self::LIMIT];
-        if indices.len() == 0 {
-            return Self::made(0, names);
-        }
-        let mut last = indices[0];
-        names[0] = last;
-        let mut n = 1;
-        let mut i = 1;
-        while i < indices.len() {
-            let x = indices[i];
-            if x == last {
-                i += 1;
-            } else if n >= Self::LIMIT {
-                return Self::over();
-            } else {
-                names[n] = x;
-                last = x;
-                n += 1;
-                i += 1;
-            }
-        }
-        Self::made(n, names)
     }
 
     // Fewer names first, then the lists of names compared.
@@ -241,7 +183,7 @@ impl PartialComplexEntity {
         Self::joined(&rows[first..], n, &others[second..], m)
     }
 
-    // Two lists of names are walked together: each turn takes the least name that is left.
+    // Two lists of names are walked together, and the names that are taken make the part.
     fn joined(left: &[u16], n: usize, right: &[u16], m: usize) -> Made
         requires { ⌜ (n ≤ length (now left)) × (m ≤ length (now right)) ⌝ }
         ensures { λ r. ⌜ r ≡ narrowOf (merge (take n (now (left .entry))) (take m (now (right .entry)))) ⌝ }
@@ -250,37 +192,43 @@ impl PartialComplexEntity {
         let mut i = 0;
         let mut j = 0;
         let mut k = 0;
-        while k < Self::LIMIT {
-            let at = k;
-            k += 1;
-            if i >= n {
-                if j >= m {
-                    return Self::made(at, names);
-                }
-                names[at] = right[j];
-                j += 1;
-            } else if j >= m {
-                names[at] = left[i];
-                i += 1;
-            } else if left[i] < right[j] {
-                names[at] = left[i];
-                i += 1;
-            } else if right[j] < left[i] {
-                names[at] = right[j];
-                j += 1;
-            } else {
-                names[at] = left[i];
-                i += 1;
-                j += 1;
+        loop {
+            let Turn::Name(x, next, other) = Self::turn_at(left, n, i, right, m, j) else {
+                return Self::made(k, names);
+            };
+            if k >= Self::LIMIT {
+                return Self::over();
             }
+            names[k] = x;
+            i = next;
+            j = other;
+            k += 1;
         }
-        if i < n {
-            return Self::over();
+    }
+
+    // One turn takes the least name that is left, from both lists where both have it.
+    fn turn_at(left: &[u16], n: usize, i: usize, right: &[u16], m: usize, j: usize) -> Turn
+        requires { ⌜ (n ≤ length (now left)) × (m ≤ length (now right)) ⌝ }
+        ensures { λ r. ⌜ r ≡ turnOf i j (drop i (take n (now (left .entry)))) (drop j (take m (now (right .entry)))) ⌝ }
+    {
+        if i >= n {
+            if j >= m {
+                return Turn::End;
+            }
+            return Turn::Name(right[j], i, j + 1);
         }
-        if j < m {
-            return Self::over();
+        let x = left[i];
+        if j >= m {
+            return Turn::Name(x, i + 1, j);
         }
-        Self::made(k, names)
+        let y = right[j];
+        if x < y {
+            return Turn::Name(x, i + 1, j);
+        }
+        if y < x {
+            return Turn::Name(y, i, j + 1);
+        }
+        Turn::Name(x, i + 1, j + 1)
     }
 
     // The part of the row that begins at a place.
@@ -355,7 +303,8 @@ impl PartialComplexEntity {
         }
     }
 
-    fn made(n: usize, names: [u16; 12]) -> Made
+    // The part of so many names.
+    pub fn made(n: usize, names: [u16; 12]) -> Made
         ensures { λ r. ⌜ r ≡ record { verdict = Done; part = record { n = n; names = names } } ⌝ }
     {
         Made {
@@ -364,7 +313,8 @@ impl PartialComplexEntity {
         }
     }
 
-    fn refused(why: Refusal) -> Made
+    // No part.
+    pub fn refused(why: Refusal) -> Made
         ensures { λ r. ⌜ r ≡ record { verdict = Refused why; part = partOf [] } ⌝ }
     {
         Made {
@@ -377,7 +327,7 @@ impl PartialComplexEntity {
     }
 
     // Over the limit.
-    fn over() -> Made
+    pub fn over() -> Made
         ensures { λ r. ⌜ r ≡ madeOf (refused 11 0) ⌝ }
     {
         Self::refused(Refusal::of(11))

@@ -1,11 +1,6 @@
 pub mod Listings
 pub mod Growing
 pub mod Insertion
-pub mod Seeking
-pub mod Keeping
 pub mod Feeds
 pub mod Unions
 pub mod Factors
-pub mod Walks
-pub mod Terms
-pub mod Choosing

@@ -4,7 +4,7 @@ use mathlib.Core.Path.{_≡_, refl, sym, ap, _∙_}
 use mathlib.Core.List.{List, [], _∷_, flatMap}
 use native.Mathlib.Omega.{arith}
 use lib.ListN.{length, take, drop, length-append, length-drop, take-append-drop}
-use lib.Seq.{paste, take-at, drop-at, drop-drop}
+use lib.Seq.{paste, take-at, drop-at, drop-drop, take-all}
 use Rattle.refusal.specs.MeaningAnswer.{Answer, done, refused, mapped}
 use Rattle.complex_entity.specs.MeaningRising.{Rising, empty}
 use Rattle.complex_entity.specs.MeaningParts.{Part, order}
@@ -16,6 +16,10 @@ use Rattle.complex_entity.proofs.Limits.{Narrow, Held, is-held, is-over, held-v
 use Rattle.rows.specs.MirrorRows.{partsAt, Stands, Put}
 use Rattle.instantiables.specs.MirrorRows.{PutIf, Listing}
 use Rattle.rows.proofs.Flats.{names-of, parts-length, parts-narrow, parts-flat, flat-length}
+
+-- what is left of a slice from a place on, as it is lent
+pub tail-is : (l : List ℕ) (a : ℕ) → take (length l - a) (drop a l) ≡ drop a l
+tail-is l a = take-all (length l - a) (drop a l) (omega (arith, length-drop a l))
 
 -- what is past some rows is as it was, so what is past more is too
 pub past-more : (rows rows₀ : List ℕ) (n k : ℕ) → n ≤ k → drop (13 * n) rows ≡ drop (13 * n) rows₀ → drop (13 * k) rows ≡ drop (13 * k) rows₀

@@ -5,12 +5,10 @@ ghost use mathlib.Core.Path.{_≡_};
 ghost use mathlib.Core.List.{[], _∷_};
 ghost use Prim.Native.Nat.{_+_, _*_, _≤_};
 ghost use lib.ListN.{length, drop};
-ghost use Rattle.refusal.specs.MeaningAnswer.{done};
-ghost use Rattle.complex_entity.specs.MeaningParts.{contains};
-ghost use Rattle.complex_entity.specs.MeaningLists.{add, joins, bitand, sub, div, held, any, equal, oneofOf, prefixes, andOf, andorOf};
+ghost use Rattle.complex_entity.specs.MeaningLists.{add, joins, bitand, held};
 ghost use Rattle.complex_entity.specs.MirrorParts.{namesOf, partOf, partAt};
 ghost use Rattle.rows.specs.MirrorRows.{partsAt, Stands, Put};
-ghost use Rattle.instantiables.specs.MirrorRows.{listsAt, sum, Sets, AllSets, Listing};
+ghost use Rattle.instantiables.specs.MirrorRows.{Sets, Listing};
 ghost use Rattle.complex_entity.specs.MirrorLists.{grown};
 ghost use Rattle.instantiables.specs.Told.{toldListed};
 ghost use Rattle.instantiables.specs.declared.Listed.the-variants.{Refused};
@@ -18,11 +16,9 @@ use complex_entity::PartialComplexEntity;
 use complex_entity::Verdict;
 use refusal::Refusal;
 use rows::Spot;
-use rows::copy;
 use rows::merge;
 use rows::place_last;
 use rows::raise;
-use rows::same_at;
 use rows::together;
 
 // The list that stands at the front of the slice now, or why there is none.
@@ -228,195 +224,8 @@ impl Instantiables {
         Listed::Rows(Self { count: total })
     }
 
-    // [A1, A2, B1, B2] - [A2, B1] = [A1, B2]
-    pub fn sub(self, rows: &mut [u16], other: Self, others: &[u16]) -> Self
-        requires { ⌜ (13 * self .count ≤ length (now rows)) × (13 * other .count ≤ length (now others)) ⌝ }
-        ensures { λ r. ⌜ Listing (done (sub (partsAt (self .count) (now (rows .entry))) (partsAt (other .count) (now (others .entry))))) (now (rows .entry)) (now (rows .exit)) (done (r .count)) ⌝ }
-    {
-        let mut kept = 0;
-        let mut to = 0;
-        let mut at = 0;
-        let mut left = self.count;
-        while 0 < left {
-            let part = PartialComplexEntity::read(rows, at);
-            if other.has(others, part) {
-                at += 13;
-                left -= 1;
-            } else {
-                part.put(rows, to);
-                kept += 1;
-                to += 13;
-                at += 13;
-                left -= 1;
-            }
-        }
-        Self { count: kept }
-    }
-
-    // [A, A & B, A & C, A & B & D, B & C, D] / [B, D] = [A & B, A & B & D, B & C, D]
-    pub fn div(self, rows: &mut [u16], other: Self, others: &[u16]) -> Self
-        requires { ⌜ (13 * self .count ≤ length (now rows)) × (13 * other .count ≤ length (now others)) ⌝ }
-        ensures { λ r. ⌜ Listing (done (div (partsAt (self .count) (now (rows .entry))) (partsAt (other .count) (now (others .entry))))) (now (rows .entry)) (now (rows .exit)) (done (r .count)) ⌝ }
-    {
-        let mut kept = 0;
-        let mut to = 0;
-        let mut at = 0;
-        let mut left = self.count;
-        while 0 < left {
-            let part = PartialComplexEntity::read(rows, at);
-            if other.some_in(others, part) {
-                part.put(rows, to);
-                kept += 1;
-                to += 13;
-                at += 13;
-                left -= 1;
-            } else {
-                at += 13;
-                left -= 1;
-            }
-        }
-        Self { count: kept }
-    }
-
-    // The list has an equal part.
-    pub fn has(self, rows: &[u16], part: PartialComplexEntity) -> bool
-        requires { ⌜ 13 * self .count ≤ length (now rows) ⌝ }
-        ensures { λ r. ⌜ r ≡ any (equal (namesOf part)) (partsAt (self .count) (now (rows .entry))) ⌝ }
-    {
-        let mut at = 0;
-        let mut left = self.count;
-        while 0 < left {
-            if same_at(part, rows, at) {
-                return true;
-            }
-            at += 13;
-            left -= 1;
-        }
-        false
-    }
-
-    // The part contains one of the list's.
-    pub fn some_in(self, rows: &[u16], part: PartialComplexEntity) -> bool
-        requires { ⌜ 13 * self .count ≤ length (now rows) ⌝ }
-        ensures { λ r. ⌜ r ≡ any (contains (namesOf part)) (partsAt (self .count) (now (rows .entry))) ⌝ }
-    {
-        let mut at = 0;
-        let mut left = self.count;
-        while 0 < left {
-            if part.contains(PartialComplexEntity::read(rows, at)) {
-                return true;
-            }
-            at += 13;
-            left -= 1;
-        }
-        false
-    }
-
-    // ONEOF(A, B, C) -> [A, B, C]
-    pub fn oneof(rows: &mut [u16], counts: &[u16], lists: &[u16]) -> Listed
-        requires { ⌜ (1664 ≤ length (now rows)) × (13 * sum (now counts) ≤ length (now lists)) ⌝ }
-        ensures { λ r. ⌜ Listing (oneofOf (listsAt (now (counts .entry)) (now (lists .entry)))) (now (rows .entry)) (now (rows .exit)) (toldListed r) ⌝ }
-    {
-        let mut list = Self::empty();
-        let mut at = 0;
-        let mut i = 0;
-        while i < counts.len() {
-            let count = counts[i] as usize;
-            let r = list.add(rows, Self { count }, &lists[at..]);
-            let Listed::Rows(more) = r else {
-                return r;
-            };
-            list = more;
-            at += 13 * count;
-            i += 1;
-        }
-        Listed::Rows(list)
-    }
-
-    // A AND B AND C -> [A & B & C]; every prefix is held to the limits
-    pub fn and(rows: &mut [u16], counts: &[u16], lists: &[u16], scratch: &mut [u16]) -> Listed
-        requires { ⌜ (1664 ≤ length (now rows)) × (1664 ≤ length (now scratch)) × (13 * sum (now counts) ≤ length (now lists)) ⌝ }
-        requires { ⌜ AllSets (listsAt (now counts) (now lists)) ⌝ }
-        ensures { λ r. ⌜ Listing (andOf (listsAt (now (counts .entry)) (now (lists .entry)))) (now (rows .exit)) (now (rows .exit)) (toldListed r) ⌝ }
-    {
-        if counts.len() < 2 {
-            return Self::refused(9);
-        }
-        let first = counts[0] as usize;
-        let second = counts[1] as usize;
-        let at = 13 * first;
-        let r = Self::bitand(
-            rows,
-            Self { count: first },
-            lists,
-            Self { count: second },
-            &lists[at..],
-        );
-        let Listed::Rows(two) = r else {
-            return r;
-        };
-        let further = at + 13 * second;
-        two.and_more(rows, &counts[2..], &lists[further..], scratch)
-    }
-
-    // The further terms of an AND: shorter lists may follow longer ones, so what is past the rows is not what it was.
-    fn and_more(
-        self,
-        rows: &mut [u16],
-        counts: &[u16],
-        lists: &[u16],
-        scratch: &mut [u16],
-    ) -> Listed
-        requires { ⌜ Stands (now rows) (self .count) × (1664 ≤ length (now scratch)) × (13 * sum (now counts) ≤ length (now lists)) ⌝ }
-        requires { ⌜ Sets (partsAt (self .count) (now rows)) × AllSets (listsAt (now counts) (now lists)) ⌝ }
-        ensures { λ r. ⌜ Listing (prefixes (partsAt (self .count) (now (rows .entry))) (listsAt (now (counts .entry)) (now (lists .entry)))) (now (rows .exit)) (now (rows .exit)) (toldListed r) ⌝ }
-    {
-        let mut list = self;
-        let mut at = 0;
-        let mut i = 0;
-        while i < counts.len() {
-            let count = counts[i] as usize;
-            copy(scratch, rows, 13 * list.count);
-            let r = Self::bitand(rows, list, scratch, Self { count }, &lists[at..]);
-            let Listed::Rows(more) = r else {
-                return r;
-            };
-            list = more;
-            at += 13 * count;
-            i += 1;
-        }
-        Listed::Rows(list)
-    }
-
-    // A ANDOR B ANDOR C -> [A, B, C, A & B, B & C, A & C, A & B & C]
-    pub fn andor(rows: &mut [u16], counts: &[u16], lists: &[u16], scratch: &mut [u16]) -> Listed
-        requires { ⌜ (1664 ≤ length (now rows)) × (1664 ≤ length (now scratch)) × (13 * sum (now counts) ≤ length (now lists)) ⌝ }
-        requires { ⌜ AllSets (listsAt (now counts) (now lists)) ⌝ }
-        ensures { λ r. ⌜ Listing (andorOf (listsAt (now (counts .entry)) (now (lists .entry)))) (now (rows .entry)) (now (rows .exit)) (toldListed r) ⌝ }
-    {
-        if counts.len() == 0 {
-            return Self::refused(9);
-        }
-        if Self::FACTORS < counts.len() {
-            return Self::refused(10);
-        }
-        let mut list = Self::empty();
-        let mut at = 0;
-        let mut i = 0;
-        while i < counts.len() {
-            let count = counts[i] as usize;
-            let r = list.andor_step(rows, Self { count }, &lists[at..], scratch);
-            let Listed::Rows(more) = r else {
-                return r;
-            };
-            list = more;
-            at += 13 * count;
-            i += 1;
-        }
-        Listed::Rows(list)
-    }
-
-    fn refused(number: u8) -> Listed
+    // No list.
+    pub fn refused(number: u8) -> Listed
         ensures { λ r. ⌜ r ≡ Refused (record { number = number; place = 0 }) ⌝ }
     {
         Listed::Refused(Refusal::of(number))

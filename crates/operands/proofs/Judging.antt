@@ -8,7 +8,7 @@ use native.Mathlib.Nat.{zero-add}
 use native.Mathlib.Numerals.{add-one}
 use lib.ListN.{length, getD, take, drop, length-drop, drop-of-length-le}
 use lib.Seq.{drop-cons, drop-drop}
-use Rattle.instantiables.proofs.Walks.{tail-is}
+use Rattle.instantiables.proofs.Listings.{tail-is}
 use Rattle.operands.specs.declared.Read.{Read}
 use Rattle.operands.specs.declared.Read.the-variants.{Whole, Wrong}
 use Rattle.operands.specs.MeaningOperands.{rowsIn, numbersFrom, wanted, firstWrong, a-list}

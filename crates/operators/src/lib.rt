@@ -14,6 +14,8 @@ ghost use Rattle.operators.specs.Told.{toldOperator, toldSeveral};
 use complex_entity::PartialComplexEntity;
 use instantiables::Instantiables;
 use instantiables::Listed;
+use keeping::div;
+use keeping::sub;
 use rows::copy;
 
 // `+`, `&`, `-` and `/`.
@@ -47,11 +49,11 @@ pub fn value(op: Operator, work: &mut [u16], left: &[u16], right: &[u16]) -> Lis
         Operator::Bitand => Instantiables::bitand(work, n, left, m, right),
         Operator::Sub => {
             copy(work, left, left.len());
-            Listed::Rows(n.sub(work, m, right))
+            Listed::Rows(sub(n, work, m, right))
         }
         Operator::Div => {
             copy(work, left, left.len());
-            Listed::Rows(n.div(work, m, right))
+            Listed::Rows(div(n, work, m, right))
         }
     }
 }
@@ -81,8 +83,8 @@ pub fn value_of_all(op: Several, work: &mut [u16], counts: &[u16], rows: &[u16])
 {
     let mut scratch = [0u16; Instantiables::ROOM];
     match op {
-        Several::Oneof => Instantiables::oneof(work, counts, rows),
-        Several::And => Instantiables::and(work, counts, rows, &mut scratch),
-        Several::Andor => Instantiables::andor(work, counts, rows, &mut scratch),
+        Several::Oneof => several::oneof(work, counts, rows),
+        Several::And => several::and(work, counts, rows, &mut scratch),
+        Several::Andor => several::andor(work, counts, rows, &mut scratch),
     }
 }
