@@ -1,6 +1,8 @@
 // after espr/src/ir/complex_entity.rs of ruststep cd89e5a7cd, Apache-2.0; changed
 //
 // The questions on rows: parts and lists as a caller lends them, with nothing checked beforehand.
+#![tactic(auto)]
+
 ghost use Rattle.std.specs.Prelude.{◌≡◌};
 ghost use Rattle.operands.specs.MeaningOperands.{a-list, a-part};
 ghost use Rattle.operands.specs.Told.{told_operand};
@@ -16,7 +18,7 @@ use operators::{Operator, Several, value, value_of_all};
 use refusal::Refusal;
 
 // What the comparison of two parts answers.
-#[derive(Drop)]
+#[derive(Clone, Copy)]
 pub enum Compared {
     Is(Order),
     Refused(Refusal),

@@ -1,4 +1,6 @@
 // An answer as two numbers.
+#![tactic(auto)]
+
 ghost use Rattle.std.specs.Prelude.{◌≡◌, ◌≤◌};
 ghost use Rattle.instantiables.specs.Told.{told_listed};
 ghost use Rattle.expression.specs.Told.{told_number};
@@ -18,7 +20,7 @@ use sheet::Judgement;
 use type_ref::TypeRef;
 
 // A refusal's number and place; or 0, and the value.
-#[derive(Drop)]
+#[derive(Clone, Copy)]
 pub struct Code {
     pub number: u8,
     pub value: u64,

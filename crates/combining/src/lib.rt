@@ -1,6 +1,8 @@
 // after espr/src/ir/constraints.rs of ruststep cd89e5a7cd, Apache-2.0; changed
 //
 // What rules, constraints and subtypes of one supertype make together.
+#![tactic(auto)]
+
 ghost use Rattle.std.specs.Prelude.{◌≡◌, List, ℕ, ◌+◌, ◌≤◌, ◌<◌, ◌^◌, eqb, length};
 ghost use Rattle.merging.specs.MeaningMerging.{Combined, Pair};
 ghost use Rattle.merging.specs.MeaningItems.{combined_of};

@@ -1,6 +1,8 @@
 // after espr/src/ir/complex_entity.rs of ruststep cd89e5a7cd, Apache-2.0; changed
 //
 // Parts: a partial complex entity is a set of at most 12 names, each an index, in rising order.
+#![tactic(auto)]
+
 ghost use Rattle.std.specs.Prelude.{◌≡◌, [], ◌∷◌, ◌+◌, ◌≤◌, min, length, take, drop};
 ghost use Rattle.std.proofs.Math.Seq.{paste};
 ghost use Rattle.complex_entity.specs.MeaningParts.{order, lex, has_name, contains};
@@ -13,7 +15,7 @@ ghost use Rattle.refusal.specs.MeaningAnswer.{refused};
 use refusal::Refusal;
 
 // What a comparison answers.
-#[derive(Drop)]
+#[derive(Clone, Copy)]
 pub enum Order {
     Less,
     Same,
@@ -21,28 +23,28 @@ pub enum Order {
 }
 
 // What a turn of a walk through two lists of names takes, and where each list is read on from then.
-#[derive(Drop)]
+#[derive(Clone, Copy)]
 enum Turn {
     Name(u16, usize, usize),
     End,
 }
 
 // Whether a part could be made.
-#[derive(Drop)]
+#[derive(Clone, Copy)]
 pub enum Verdict {
     Done,
     Refused(Refusal),
 }
 
 // A part, if the verdict says so; otherwise the part of no names.
-#[derive(Drop)]
+#[derive(Clone, Copy)]
 pub struct Made {
     pub verdict: Verdict,
     pub part: PartialComplexEntity,
 }
 
 // `n` names at the front, zeros after them.
-#[derive(Drop)]
+#[derive(Clone, Copy)]
 pub struct PartialComplexEntity {
     pub n: usize,
     pub names: [u16; 12],

@@ -1,6 +1,8 @@
 // after espr/src/ir/constraints.rs of ruststep cd89e5a7cd, Apache-2.0; changed
 //
 // The questions about supertypes: which there are, their lists, and the numbers of the sets in a list.
+#![tactic(auto)]
+
 ghost use Rattle.std.specs.Prelude.{◌≡◌, length, drop};
 ghost use Rattle.refusal.specs.MeaningAnswer.{Answer, done};
 ghost use Rattle.grammar.specs.MeaningReading.Reading.{rust};
@@ -32,7 +34,7 @@ use refusal::Refusal;
 use sheet::Reading;
 use supertypes::{RECORDS, count_to, gathered, list_at, owns, settle};
 
-#[derive(Drop)]
+#[derive(Clone, Copy)]
 pub enum Decision {
     Yes,
     No,
@@ -40,7 +42,7 @@ pub enum Decision {
 }
 
 // A row that is asked for: the verdict on it, and the part it holds.
-#[derive(Drop)]
+#[derive(Clone, Copy)]
 pub struct AskedRow {
     pub verdict: Verdict,
     pub part: PartialComplexEntity,

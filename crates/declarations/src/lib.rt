@@ -1,6 +1,8 @@
 // after espr/src/ir/namespace.rs of ruststep cd89e5a7cd, Apache-2.0; changed
 //
 // Walks over the declarations of a sheet: by schema, kind and name to a number.
+#![tactic(auto)]
+
 ghost use Rattle.std.specs.Prelude.{◌≡◌, ◌≤◌, length};
 ghost use Rattle.sheet.specs.Told.{told_reading};
 ghost use Rattle.schemas.specs.MeaningTree.{tree_at};
@@ -14,14 +16,14 @@ use scope::ScopeType;
 use sheet::{Header, Reading, field_at};
 
 // A declaration's number, or why there is none.
-#[derive(Drop)]
+#[derive(Clone, Copy)]
 pub enum Found {
     Number(u16),
     Refused(Refusal),
 }
 
 // The numbers of a schema's declarations: of the first, of the first entity and behind the last; and where its fields stand.
-#[derive(Drop)]
+#[derive(Clone, Copy)]
 pub struct Numbers {
     pub first: usize,
     pub entities: usize,
@@ -31,7 +33,7 @@ pub struct Numbers {
 }
 
 // The last schema of a name, and whether no other has it.
-#[derive(Drop)]
+#[derive(Clone, Copy)]
 pub enum LastSchema {
     At { numbers: Numbers, alone: bool },
     Nowhere,

@@ -1,4 +1,6 @@
 // Reads a sheet from standard input and prints its listing.
+#![tactic(auto)]
+
 ghost use Rattle.std.specs.Prelude.{◌+◌, ◌≤◌, length};
 ghost use Rattle.sheet.specs.Told.{told_reading};
 ghost use Rattle.listing.specs.MirrorLines.{most_line};

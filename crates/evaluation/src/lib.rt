@@ -1,6 +1,8 @@
 // after espr/src/ir/complex_entity.rs of ruststep cd89e5a7cd, Apache-2.0; changed
 //
 // The list of an expression: a node calls for its terms, and the terms call back for their nodes.
+#![tactic(auto)]
+
 ghost use Rattle.std.specs.Prelude.{◌≡◌, ℕ, ◌+◌, ◌*◌, ◌≤◌, length};
 ghost use Rattle.expression.specs.MeaningExpression.{Expr, Terms, eval};
 ghost use Rattle.expression.specs.MirrorNodes.{flat, flats, Node, Nodes};

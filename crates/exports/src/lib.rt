@@ -1,4 +1,6 @@
 // The public questions for C: each answers a refusal's number, 0 where there is none, and writes the answer's value, or the refusal's place, where the caller points.
+#![tactic(auto)]
+
 pub mod combinations;
 pub mod names;
 pub mod rows;

@@ -8,7 +8,7 @@ use namespace::{NamePlace, PathName, name_place};
 use sheet::Reading;
 
 // A refusal's number and place, and 0; or 0, and where the name stands.
-#[derive(Drop)]
+#[derive(Clone, Copy)]
 pub struct NameCode {
     pub number: u8,
     pub start: u64,

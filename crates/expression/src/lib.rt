@@ -1,6 +1,8 @@
 // after espr/src/ir/constraints.rs of ruststep cd89e5a7cd, Apache-2.0; changed
 //
 // Expressions: nodes in lent memory, what occurs in one, and the numbers of a list's sets.
+#![tactic(auto)]
+
 ghost use Rattle.std.specs.Prelude.{◌≡◌, [], ◌∷◌, ◌++◌, ◌+◌, ◌*◌, ◌≤◌, length, take, drop};
 ghost use Rattle.complex_entity.specs.MirrorParts.{names_of, made_of};
 ghost use Rattle.rows.specs.MirrorRows.{parts_at, Stands};
@@ -13,18 +15,18 @@ use refusal::Refusal;
 use rows::{Spot, place};
 
 // A list that was valued: so many rows.
-#[derive(Drop)]
+#[derive(Clone, Copy)]
 pub struct Value {
     pub count: usize,
 }
 
-#[derive(Drop)]
+#[derive(Clone, Copy)]
 pub enum Valued {
     Is(Value),
     Refused(Refusal),
 }
 
-#[derive(Drop)]
+#[derive(Clone, Copy)]
 pub enum Numbered {
     Number(usize),
     Refused(Refusal),

@@ -1,6 +1,8 @@
 // after espr/src/ir/constraints.rs of ruststep cd89e5a7cd, Apache-2.0; changed
 //
 // The factors of an owner's expression, put into lent memory: those of its rules and constraints, and its subtypes that are left over.
+#![tactic(auto)]
+
 ghost use Rattle.std.specs.Prelude.{◌≡◌, List, ℕ, ◌+◌, ◌≤◌, eqb, length};
 ghost use Rattle.expression.specs.MeaningExpression.{Expr, end, factors};
 ghost use Rattle.expression.specs.MirrorNodes.{flat, flats};

@@ -1,4 +1,6 @@
 // Gathering: from the bytes of a sheet into a stream of records, rules first, then constraints, then names in SUBTYPE OF.
+#![tactic(auto)]
+
 ghost use Rattle.std.specs.Prelude.{◌≡◌, [], ◌∷◌, ◌++◌, ◌+◌, ◌-◌, ◌≤◌, ◌<◌, length, take};
 ghost use Rattle.refusal.specs.MeaningAnswer.{mapped};
 ghost use Rattle.sheet.specs.Told.{told_reading};
@@ -20,20 +22,20 @@ use refusal::Refusal;
 use sheet::{Header, Reading};
 
 // What is gathered: rules and constraints stand at the front of the stream, names in SUBTYPE OF behind them.
-#[derive(Drop)]
+#[derive(Clone, Copy)]
 pub struct Streams {
     pub rules: usize,
     pub used: usize,
 }
 
-#[derive(Drop)]
+#[derive(Clone, Copy)]
 pub enum Gathered {
     Done(Streams),
     Refused(Refusal),
 }
 
 // Steps b, d and c.
-#[derive(Drop)]
+#[derive(Clone, Copy)]
 pub enum Pass {
     Rules,
     Constraints,

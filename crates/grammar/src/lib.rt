@@ -1,4 +1,6 @@
 // The table of tags: which tag may stand where in its parent, and what its value may hold.
+#![tactic(auto)]
+
 ghost use Rattle.std.specs.Prelude.{◌≡◌, ◌<◌, [], get_or};
 ghost use Rattle.grammar.specs.MirrorRows.{rows};
 ghost use Rattle.grammar.specs.MirrorTable.{row_count, column_count, cell_at, belongs, serves, first_row, row_of};

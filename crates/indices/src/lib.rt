@@ -1,6 +1,8 @@
 // after espr/src/ir/complex_entity.rs of ruststep cd89e5a7cd, Apache-2.0; changed
 //
 // Parts from the indices that a caller lists.
+#![tactic(auto)]
+
 ghost use Rattle.std.specs.Prelude.{◌≡◌};
 ghost use Rattle.complex_entity.specs.MeaningParts.{dedup, bad_after, new_of};
 ghost use Rattle.complex_entity.specs.MirrorParts.{narrow_of, made_of};
@@ -10,7 +12,7 @@ use complex_entity::{Made, PartialComplexEntity};
 use refusal::Refusal;
 
 // The first index that `new` does not take.
-#[derive(Drop)]
+#[derive(Clone, Copy)]
 enum Spotted {
     At(usize),
     Nowhere,

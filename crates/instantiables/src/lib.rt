@@ -1,6 +1,8 @@
 // after espr/src/ir/complex_entity.rs of ruststep cd89e5a7cd, Apache-2.0; changed
 //
 // Lists of parts as rows of 13 numbers at the front of a lent slice, worked on in place.
+#![tactic(auto)]
+
 ghost use Rattle.std.specs.Prelude.{◌≡◌, [], ◌∷◌, ◌+◌, ◌*◌, ◌≤◌, length, drop};
 ghost use Rattle.complex_entity.specs.MeaningLists.{add, joins, bitand, held};
 ghost use Rattle.complex_entity.specs.MirrorParts.{names_of, part_of, part_at};
@@ -15,14 +17,14 @@ use refusal::Refusal;
 use rows::{Spot, merge, place_last, raise, together};
 
 // The list that stands at the front of the slice now, or why there is none.
-#[derive(Drop)]
+#[derive(Clone, Copy)]
 pub enum Listed {
     Rows(Instantiables),
     Refused(Refusal),
 }
 
 // A list of parts: so many rows at the front of the slice that is lent beside it.
-#[derive(Drop)]
+#[derive(Clone, Copy)]
 pub struct Instantiables {
     pub count: usize,
 }

@@ -1,6 +1,8 @@
 // after espr/src/ir/complex_entity.rs of ruststep cd89e5a7cd, Apache-2.0; changed
 //
 // Rows of a list that are kept where they stand: `-` and `/`.
+#![tactic(auto)]
+
 ghost use Rattle.std.specs.Prelude.{◌≡◌, ◌*◌, ◌≤◌, length};
 ghost use Rattle.refusal.specs.MeaningAnswer.{done};
 ghost use Rattle.complex_entity.specs.MeaningParts.{contains};

@@ -1,4 +1,6 @@
 // The line protocol's questions and answers: finding lines and words, reading values, writing answers.
+#![tactic(auto)]
+
 mod lent;
 mod values;
 mod words;

@@ -5,7 +5,7 @@ ghost use Rattle.lines.specs.Values.{AtMost, Decoded};
 use crate::words::is;
 
 // What a word says: a number, or how many values it has; if it says that.
-#[derive(Drop)]
+#[derive(Clone, Copy)]
 pub enum Number {
     Is(usize),
     Missing,

@@ -1,4 +1,6 @@
 // The lines of a sheet's listing, one after the other: the sheet is checked and gathered once, and each line is made when it is asked for.
+#![tactic(auto)]
+
 ghost use Rattle.std.specs.Prelude.{List, ℕ, ◌≤◌, length};
 ghost use Rattle.sheet.specs.Told.{told_reading};
 ghost use Rattle.listing.specs.MirrorLines.{most_line};
@@ -19,14 +21,14 @@ use supertypes::{RECORDS, gathered, list_of};
 use text::{Count, refused_line};
 
 // The records of gathering, from the place of one on.
-#[derive(Drop)]
+#[derive(Clone, Copy)]
 pub struct Records {
     pub streams: Streams,
     pub at: usize,
 }
 
 // A supertype's parts, from a number on; then the records behind its own.
-#[derive(Drop)]
+#[derive(Clone, Copy)]
 pub struct Parts {
     pub number: usize,
     pub count: usize,
@@ -34,7 +36,7 @@ pub struct Parts {
 }
 
 // What comes next.
-#[derive(Drop)]
+#[derive(Clone, Copy)]
 pub enum Cursor {
     Refusal(Refusal),
     Supertypes(Records),
@@ -44,7 +46,7 @@ pub enum Cursor {
 }
 
 // A line ends at its stop; where none is left the stop is 0.
-#[derive(Drop)]
+#[derive(Clone, Copy)]
 pub struct Line {
     pub stop: usize,
     pub next: Cursor,

@@ -1,4 +1,6 @@
 // The lines of a listing that speak of declarations, by their numbers, as bytes in lent memory. Every function answers the place after what it put.
+#![tactic(auto)]
+
 ghost use Rattle.std.specs.Prelude.{◌≡◌, Bool, true, ◌+◌, ◌≤◌, length};
 ghost use Rattle.std.proofs.Math.Option.{some};
 ghost use Rattle.std.proofs.Math.ListN.{get_elem?};

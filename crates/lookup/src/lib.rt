@@ -1,4 +1,6 @@
 // Walks over the fields of a value: the name it begins with, and its fields with one tag, by name and by number.
+#![tactic(auto)]
+
 ghost use Rattle.std.specs.Prelude.{◌≡◌, true, ◌≤◌, ◌+◌, length};
 ghost use Rattle.sheet.specs.Told.{told_reading};
 ghost use Rattle.forest.specs.MeaningPlaces.{nests};
@@ -11,21 +13,21 @@ use scope::same_name;
 use sheet::{Header, Reading, field_at};
 
 // Where a name stands.
-#[derive(Drop)]
+#[derive(Clone, Copy)]
 pub struct Span {
     pub start: usize,
     pub stop: usize,
 }
 
 // A number that was found, or the number after the last.
-#[derive(Drop)]
+#[derive(Clone, Copy)]
 pub enum Sought {
     At(usize),
     Past(usize),
 }
 
 // Where the value of a field stands, or by how many there are fewer.
-#[derive(Drop)]
+#[derive(Clone, Copy)]
 pub enum Place {
     At { start: usize, stop: usize },
     Past(usize),

@@ -1,6 +1,8 @@
 // after espr/src/ir/constraints.rs of ruststep cd89e5a7cd, Apache-2.0; changed
 //
 // Gathering's items in lent memory: records of an owner and the nodes of its expression, and what is asked of them.
+#![tactic(auto)]
+
 ghost use Rattle.std.specs.Prelude.{◌≡◌, List, [], ◌++◌, map, ℕ, ◌+◌, ◌<◌, eqb, length, get_or, replicate};
 ghost use Rattle.std.proofs.Math.ListN.{get_elem?};
 ghost use Rattle.expression.specs.MeaningExpression.{end, is_in_some};
@@ -12,21 +14,21 @@ ghost use Rattle.merging.specs.MirrorStream.{stream_of, Records, is_found, alone
 use expression::{ANDOR, NODE, is_in};
 
 // Where the expression of an owner stands, if it has one.
-#[derive(Drop)]
+#[derive(Clone, Copy)]
 pub struct Combination {
     pub found: bool,
     pub start: usize,
     pub stop: usize,
 }
 
-#[derive(Drop)]
+#[derive(Clone, Copy)]
 pub enum Owner {
     At(u16),
     Past,
 }
 
 // An owner that no earlier record has, and where the record after its first begins.
-#[derive(Drop)]
+#[derive(Clone, Copy)]
 pub enum Entry {
     At { owner: u16, next: usize },
     Past,

@@ -1,6 +1,8 @@
 // after espr/src/ir/type_ref.rs of ruststep cd89e5a7cd, Apache-2.0; changed
 //
 // The walk through named types, from the declaration with a number: whether it ends simple, or why it does not end.
+#![tactic(auto)]
+
 ghost use Rattle.std.specs.Prelude.{◌≡◌, ◌≤◌, ◌-◌, length};
 ghost use Rattle.std.proofs.Math.ListN.{get_elem?};
 ghost use Rattle.grammar.specs.MeaningReading as readings;
@@ -19,7 +21,7 @@ use sheet::{Header, Reading, field_at};
 use standing::{Declared, declaration};
 
 // What a type is; of a named type, where the name stands.
-#[derive(Drop)]
+#[derive(Clone, Copy)]
 pub enum Body {
     Simple,
     Enumeration,
@@ -28,14 +30,14 @@ pub enum Body {
 }
 
 // One step of the walk: it ends, simple or not; or it goes on to the declaration with a number.
-#[derive(Drop)]
+#[derive(Clone, Copy)]
 pub enum Step {
     Ends(bool),
     Goes(usize),
     Refused(Refusal),
 }
 
-#[derive(Drop)]
+#[derive(Clone, Copy)]
 pub enum Walked {
     Ends(bool),
     Refused(Refusal),

@@ -1,6 +1,8 @@
 // after espr/src/ir/namespace.rs of ruststep cd89e5a7cd, Apache-2.0; changed
 //
 // The declarations of a sheet by number: `resolve`, `get`, `as_path`, and the order of refusals of every question on a sheet.
+#![tactic(auto)]
+
 ghost use Rattle.std.specs.Prelude.{true};
 ghost use Rattle.refusal.specs.MeaningAnswer.{done};
 ghost use Rattle.grammar.specs.MeaningReading.Reading.{rust};
@@ -20,14 +22,14 @@ use sheet::{Judgement, Reading, verdict_in};
 use standing::{Declared, declaration};
 
 // Which name of a declaration's path.
-#[derive(Drop)]
+#[derive(Clone, Copy)]
 pub enum PathName {
     Schema,
     Item,
 }
 
 // Where a name stands, or why there is none.
-#[derive(Drop)]
+#[derive(Clone, Copy)]
 pub enum NamePlace {
     At(Span),
     Refused(Refusal),

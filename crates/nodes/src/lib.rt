@@ -1,4 +1,6 @@
 // Expressions from bytes: nested fields are read, and their nodes built in lent memory.
+#![tactic(auto)]
+
 ghost use Rattle.std.specs.Prelude.{◌≡◌, ℕ, ◌+◌, ◌≤◌, ◌<◌, ◌^◌, length, drop};
 ghost use Rattle.nodes.specs.MeaningBytes.{field_of};
 ghost use Rattle.nodes.specs.MirrorBuilding.{Ends, Reads, an_expression, some_terms};
@@ -6,7 +8,7 @@ ghost use Rattle.nodes.specs.MirrorBuilding.{Ends, Reads, an_expression, some_te
 use expression::{NODE, REFERENCE, put_node};
 
 // How many numbers stand then, or that the bytes are no expression.
-#[derive(Drop)]
+#[derive(Clone, Copy)]
 pub enum Built {
     Used(usize),
     Missing,

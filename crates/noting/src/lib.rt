@@ -1,4 +1,6 @@
 // Where the names of declarations stand in a sheet: found by number, and noted in lent memory.
+#![tactic(auto)]
+
 ghost use Rattle.std.specs.Prelude.{◌≡◌, ◌+◌, ◌≤◌, length, set};
 ghost use Rattle.declarations.specs.MeaningNamespace.{schemas_in};
 ghost use Rattle.noting.specs.MeaningNames.{names_of};
@@ -8,7 +10,7 @@ use lookup::{Span, name_of};
 use standing::{Declared, declaration};
 
 // Where the names of a declaration stand in the sheet.
-#[derive(Drop)]
+#[derive(Clone, Copy)]
 pub struct NamesAt {
     pub schema: Span,
     pub item: Span,

@@ -1,6 +1,8 @@
 // after espr/src/ir/complex_entity.rs of ruststep cd89e5a7cd, Apache-2.0; changed
 //
 // Rows as a caller lends them: operands are read from them, with nothing checked beforehand, and results handed out to them.
+#![tactic(auto)]
+
 ghost use Rattle.std.specs.Prelude.{◌≡◌, [], ◌∷◌, ◌≤◌, length};
 ghost use Rattle.complex_entity.specs.MirrorParts.{names_of};
 ghost use Rattle.instantiables.specs.Told.{told_listed};
@@ -17,14 +19,14 @@ use refusal::Refusal;
 use rows::copy;
 
 // What an operand is to be.
-#[derive(Drop)]
+#[derive(Clone, Copy)]
 pub enum Operand {
     List,
     Part,
 }
 
 // An operand's rows: all of them good, or the number of the first that is wrong.
-#[derive(Drop)]
+#[derive(Clone, Copy)]
 pub enum Read {
     Whole,
     Wrong(usize),

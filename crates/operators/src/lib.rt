@@ -1,6 +1,8 @@
 // after espr/src/ir/complex_entity.rs of ruststep cd89e5a7cd, Apache-2.0; changed
 //
 // The operators by name: the value of good operands, in a work array.
+#![tactic(auto)]
+
 ghost use Rattle.std.specs.Prelude.{◌*◌, ◌≤◌, length};
 ghost use Rattle.complex_entity.specs.MeaningLists.{add, held};
 ghost use Rattle.rows.specs.MirrorRows.{parts_at};
@@ -17,7 +19,7 @@ use keeping::{div, sub};
 use rows::copy;
 
 // `+`, `&`, `-` and `/`.
-#[derive(Drop)]
+#[derive(Clone, Copy)]
 pub enum Operator {
     Add,
     Bitand,
@@ -26,7 +28,7 @@ pub enum Operator {
 }
 
 // ONEOF, AND and ANDOR.
-#[derive(Drop)]
+#[derive(Clone, Copy)]
 pub enum Several {
     Oneof,
     And,

@@ -1,4 +1,6 @@
 // Queries: the fields that ask for a scope, a path or a name, and the question of the partial order.
+#![tactic(auto)]
+
 ghost use Rattle.std.specs.Prelude.{◌≡◌};
 ghost use Rattle.grammar.specs.MeaningReading.Reading.{rust};
 ghost use Rattle.sheet.specs.Told.{told_reading};
@@ -13,68 +15,68 @@ use scope::{Compared, Path, Popped, Pushed, Rung, Scope, ScopeType, compare};
 use sheet::{Header, Reading, field_at, is_name};
 
 // What a tag stands for.
-#[derive(Drop)]
+#[derive(Clone, Copy)]
 enum Tagged {
     Kind(ScopeType),
     Other,
 }
 
 // What is read behind a scope: the step that is a path's item, or the name in a field 10.
-#[derive(Drop)]
+#[derive(Clone, Copy)]
 enum Wanted {
     Step,
     Word,
 }
 
 // A step or a name that stands at a place.
-#[derive(Drop)]
+#[derive(Clone, Copy)]
 enum Item {
     Found(Rung),
     Nothing,
 }
 
 // The steps that stand from a place on, and the place after them.
-#[derive(Drop)]
+#[derive(Clone, Copy)]
 struct Reached {
     pub scope: Scope,
     pub at: usize,
 }
 
 // How far a reader of a query has come, and where the query ends.
-#[derive(Drop)]
+#[derive(Clone, Copy)]
 struct Place {
     pub at: usize,
     pub end: usize,
 }
 
 // The scope that a query begins with, what stands behind it, and the place after both.
-#[derive(Drop)]
+#[derive(Clone, Copy)]
 struct Followed {
     pub scope: Scope,
     pub next: Item,
     pub at: usize,
 }
 
-#[derive(Drop)]
+#[derive(Clone, Copy)]
 pub enum Verdict {
     Done,
     Refused(Refusal),
 }
 
-#[derive(Drop)]
+#[derive(Clone, Copy)]
 pub struct AskedScope {
     pub verdict: Verdict,
     pub scope: Scope,
 }
 
-#[derive(Drop)]
+#[derive(Clone, Copy)]
 pub struct AskedPath {
     pub verdict: Verdict,
     pub path: Path,
 }
 
 // What `resolve` is asked: a scope, and where the name stands.
-#[derive(Drop)]
+#[derive(Clone, Copy)]
 pub struct AskedName {
     pub verdict: Verdict,
     pub scope: Scope,

@@ -1,4 +1,6 @@
 // Records: an owner and the nodes of its expression, from the bytes of a sheet into a stream.
+#![tactic(auto)]
+
 ghost use Rattle.std.specs.Prelude.{◌≡◌, ◌+◌, ◌-◌, ◌*◌, ◌≤◌, ◌<◌, length};
 ghost use Rattle.sheet.specs.Told.{told_reading};
 ghost use Rattle.schemas.specs.MeaningTree.{tree_at};
@@ -18,7 +20,7 @@ use scope::ScopeType;
 use sheet::{Header, Reading, field_at};
 
 // The stream is filled so far, or why not.
-#[derive(Drop)]
+#[derive(Clone, Copy)]
 pub enum Filled {
     To(usize),
     Refused(Refusal),

@@ -1,4 +1,6 @@
 // Answers the questions on parts, lists, expressions, sheets, names, supertypes, types and listings, a line each, from standard input to standard output.
+#![tactic(auto)]
+
 ghost use Rattle.std.specs.Prelude.{◌≤◌, length};
 
 mod listings;

@@ -1,4 +1,6 @@
 // Answers in words that several questions share: no question, a refusal, a number, an order, a list and what it changed in the lent buffer.
+#![tactic(auto)]
+
 ghost use Rattle.lines.specs.Places.{Written};
 
 use complex_entity::Order;

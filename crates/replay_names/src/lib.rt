@@ -1,4 +1,6 @@
 // The questions on a sheet, alone or with a query or an index, and on two queries.
+#![tactic(auto)]
+
 ghost use Rattle.lines.specs.Places.{Written};
 
 use complex_entity::Order;

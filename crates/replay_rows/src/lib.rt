@@ -1,4 +1,6 @@
 // The questions on parts, lists and expressions: each shape of words is decoded, asked as it stands, malformed or not, and answered.
+#![tactic(auto)]
+
 ghost use Rattle.expression.specs.MirrorNodes.{Node};
 ghost use Rattle.lines.specs.Places.{Written};
 

@@ -1,4 +1,6 @@
 // The questions on a sheet with a workspace: supertypes, their lists and the sets in these, types.
+#![tactic(auto)]
+
 ghost use Rattle.std.specs.Prelude.{◌≤◌};
 ghost use Rattle.lines.specs.Places.{Written};
 

@@ -1,6 +1,8 @@
 // after espr/src/ir/namespace.rs of ruststep cd89e5a7cd, Apache-2.0; changed
 //
 // What a name means in a scope, and which declaration a path leads to, by number.
+#![tactic(auto)]
+
 ghost use Rattle.std.specs.Prelude.{◌≡◌, ◌≤◌, length};
 ghost use Rattle.sheet.specs.Told.{told_reading};
 ghost use Rattle.scope.specs.Told.{told_kind, told_scope, told_path};

@@ -1,6 +1,8 @@
 // after espr/src/ir/complex_entity.rs of ruststep cd89e5a7cd, Apache-2.0; changed
 //
 // Rows of 13 numbers, one a part: where a part stands among sorted ones, two sorted lists made one, and rows that move.
+#![tactic(auto)]
+
 ghost use Rattle.std.specs.Prelude.{◌≡◌, ◌++◌, ◌+◌, ◌≤◌, length, take, drop};
 ghost use Rattle.std.proofs.Math.Seq.{paste};
 ghost use Rattle.complex_entity.specs.MeaningLists.{add, equal};
@@ -12,7 +14,7 @@ ghost use Rattle.rows.specs.MirrorUnions.{Compared};
 use complex_entity::{Order, PartialComplexEntity};
 
 // Where a part stands in a list, or where it would go.
-#[derive(Drop)]
+#[derive(Clone, Copy)]
 pub enum Spot {
     Found(usize),
     Gap(usize),

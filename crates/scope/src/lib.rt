@@ -1,6 +1,8 @@
 // after espr/src/ir/scope.rs of ruststep cd89e5a7cd, Apache-2.0; changed
 //
 // Scopes and paths, when names and steps are equal, and the partial order of scopes. A name is a span of the bytes it stands in.
+#![tactic(auto)]
+
 ghost use Rattle.std.specs.Prelude.{◌≡◌};
 ghost use Rattle.sheet.specs.Told.{told_reading};
 ghost use Rattle.scope.specs.MeaningNames.{same_bytes, same_name};
@@ -13,7 +15,7 @@ ghost use Rattle.refusal.specs.MeaningAnswer.{done};
 use refusal::Refusal;
 use sheet::Reading;
 
-#[derive(Drop)]
+#[derive(Clone, Copy)]
 pub enum ScopeType {
     Entity,
     Alias,
@@ -28,7 +30,7 @@ pub enum ScopeType {
 }
 
 // One step of a scope, or a path's item: its kind, and where its name stands.
-#[derive(Drop)]
+#[derive(Clone, Copy)]
 pub struct Rung {
     pub kind: ScopeType,
     pub start: usize,
@@ -36,7 +38,7 @@ pub struct Rung {
 }
 
 // The steps from the outermost on; past the last one stand zeros.
-#[derive(Drop)]
+#[derive(Clone, Copy)]
 pub struct Scope {
     pub count: usize,
     pub one: Rung,
@@ -44,26 +46,26 @@ pub struct Scope {
     pub three: Rung,
 }
 
-#[derive(Drop)]
+#[derive(Clone, Copy)]
 pub struct Path {
     pub scope: Scope,
     pub item: Rung,
 }
 
-#[derive(Drop)]
+#[derive(Clone, Copy)]
 pub enum Pushed {
     Onto(Scope),
     Full,
 }
 
-#[derive(Drop)]
+#[derive(Clone, Copy)]
 pub enum Popped {
     Outer(Scope),
     Root,
 }
 
 // The left scope against the right one, or why they are not compared.
-#[derive(Drop)]
+#[derive(Clone, Copy)]
 pub enum Compared {
     Less,
     Equal,

@@ -1,6 +1,8 @@
 // after espr/src/ir/complex_entity.rs of ruststep cd89e5a7cd, Apache-2.0; changed
 //
 // ONEOF, AND and ANDOR of lists that stand one after another.
+#![tactic(auto)]
+
 ghost use Rattle.std.specs.Prelude.{◌*◌, ◌≤◌, length};
 ghost use Rattle.complex_entity.specs.MeaningLists.{oneof_of, prefixes, and_of, andor_of};
 ghost use Rattle.rows.specs.MirrorRows.{parts_at, Stands};

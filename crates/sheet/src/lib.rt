@@ -1,4 +1,6 @@
 // The verdict on a sheet: accepted, or refused with document 01's number and place.
+#![tactic(auto)]
+
 ghost use Rattle.std.specs.Prelude.{◌≡◌, ◌<◌, ◌≤◌, length};
 ghost use Rattle.grammar.specs.MeaningReading.Reading.{rust};
 ghost use Rattle.grammar.specs.MirrorRows.{rows};
@@ -16,27 +18,27 @@ use grammar::{
 use refusal::Refusal;
 
 // Under which reading a sheet is judged: what a row of the table answers depends on it.
-#[derive(Drop)]
+#[derive(Clone, Copy)]
 pub enum Reading {
     Rust,
 }
 
 // The verdict.
-#[derive(Drop)]
+#[derive(Clone, Copy)]
 pub enum Judgement {
     Accepted,
     Refused(Refusal),
 }
 
 // What stands at a place: a field, or a header or value that passes its parent's end.
-#[derive(Drop)]
+#[derive(Clone, Copy)]
 pub enum Header {
     Field { tag: u8, start: usize, stop: usize },
     Passes,
 }
 
 // How many fields have stood that count for a limit.
-#[derive(Drop)]
+#[derive(Clone, Copy)]
 pub struct Counts {
     pub schemas: u16,
     pub declarations: u16,
@@ -55,21 +57,21 @@ impl Counts {
 }
 
 // One count with the next field.
-#[derive(Drop)]
+#[derive(Clone, Copy)]
 pub enum Tally {
     Upto(u16),
     Beyond,
 }
 
 // All counts with the next field.
-#[derive(Drop)]
+#[derive(Clone, Copy)]
 pub enum Counted {
     Within(Counts),
     Over,
 }
 
 // One step in a value. `next` is the value's state after a field. Small parts come first, so that all cases lie alike and a step stays in registers.
-#[derive(Drop)]
+#[derive(Clone, Copy)]
 pub enum Step {
     // The value ends.
     Done(Counts),
@@ -85,7 +87,7 @@ pub enum Step {
 }
 
 // What the check of a value answers: the counts after it.
-#[derive(Drop)]
+#[derive(Clone, Copy)]
 pub enum Checked {
     Accepted(Counts),
     Refused(Refusal),

@@ -1,6 +1,8 @@
 // after espr/src/ir/namespace.rs of ruststep cd89e5a7cd, Apache-2.0; changed
 //
 // The walk over the declarations of a sheet by a number, to where the declaration stands.
+#![tactic(auto)]
+
 ghost use Rattle.std.specs.Prelude.{◌≤◌, length};
 ghost use Rattle.declarations.specs.MeaningNamespace.{schemas_in, declarations};
 ghost use Rattle.standing.specs.MirrorDeclared.{StandsAt, InFields};
@@ -9,7 +11,7 @@ use lookup::{Place, nth};
 use sheet::{Header, field_at};
 
 // Where a declaration stands: its schema's value, its own field's tag and value; or by how many there are fewer.
-#[derive(Drop)]
+#[derive(Clone, Copy)]
 pub enum Declared {
     At {
         schema_start: usize,

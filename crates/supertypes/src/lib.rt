@@ -1,6 +1,8 @@
 // after espr/src/ir/constraints.rs of ruststep cd89e5a7cd, Apache-2.0; changed
 //
 // What is worked out of a sheet: its records are gathered once, then one supertype after the other is valued.
+#![tactic(auto)]
+
 ghost use Rattle.std.specs.Prelude.{◌≡◌, ◌≤◌, eqb, length};
 ghost use Rattle.sheet.specs.Told.{told_reading};
 ghost use Rattle.scope.specs.Told.{told_path};

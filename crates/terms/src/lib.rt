@@ -1,6 +1,8 @@
 // after espr/src/ir/complex_entity.rs of ruststep cd89e5a7cd, Apache-2.0; changed
 //
 // The terms of a node: the list of each is taken into the node's list by the node's kind, and at the end come the refusals of the node.
+#![tactic(auto)]
+
 ghost use Rattle.std.specs.Prelude.{◌≡◌, ◌≤◌, length, drop};
 ghost use Rattle.rows.specs.MirrorRows.{parts_at, Stands};
 ghost use Rattle.instantiables.specs.MirrorRows.{Sets};

@@ -1,4 +1,6 @@
 // The pieces and lines of a listing, as bytes in lent memory. Every function answers the place after what it put.
+#![tactic(auto)]
+
 ghost use Rattle.std.specs.Prelude.{◌≡◌, [], ◌∷◌, ◌++◌, ◌+◌, ◌≤◌, ◌<◌, length};
 ghost use Rattle.text.specs.MeaningText.{blank, line_feed, decimal, flag, flags, path_text, refused_line, or_refused, supertype_line, type_line};
 ghost use Rattle.text.specs.MirrorText.{Puts, refused_text, start_text, next_text, Counted};
@@ -7,20 +9,20 @@ ghost use Rattle.text.specs.Told.{told_count, told_flags};
 use refusal::Refusal;
 
 // How many sets an entity has, or why that is not known.
-#[derive(Drop)]
+#[derive(Clone, Copy)]
 pub enum Count {
     Is(usize),
     Refused(Refusal),
 }
 
-#[derive(Drop)]
+#[derive(Clone, Copy)]
 pub struct FlagsOf {
     pub simple: bool,
     pub enumeration: bool,
 }
 
 // What is asked of a type, or why that is not known.
-#[derive(Drop)]
+#[derive(Clone, Copy)]
 pub enum Flags {
     Are(FlagsOf),
     Refused(Refusal),

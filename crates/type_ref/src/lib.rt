@@ -1,6 +1,8 @@
 // after espr/src/ir/type_ref.rs of ruststep cd89e5a7cd, Apache-2.0; changed
 //
 // What a path is: an entity, and whether a supertype; or a type, and what the walk through named types says of it.
+#![tactic(auto)]
+
 ghost use Rattle.std.specs.Prelude.{◌≡◌, ◌≤◌, length};
 ghost use Rattle.refusal.specs.MeaningAnswer.{done};
 ghost use Rattle.grammar.specs.MeaningReading.Reading.{rust};
@@ -21,20 +23,20 @@ use resolving::number_for;
 use scope::Path;
 use sheet::Reading;
 
-#[derive(Drop)]
+#[derive(Clone, Copy)]
 pub struct NamedType {
     pub path: Path,
     pub is_simple: bool,
     pub is_enumerate: bool,
 }
 
-#[derive(Drop)]
+#[derive(Clone, Copy)]
 pub struct EntityType {
     pub path: Path,
     pub is_supertype: bool,
 }
 
-#[derive(Drop)]
+#[derive(Clone, Copy)]
 pub enum TypeRef {
     Named(NamedType),
     Entity(EntityType),
