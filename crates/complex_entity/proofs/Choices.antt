@@ -134,7 +134,7 @@ grown_rising L T = add_rising L (joins L T ++ T)
 pub andor_from_rising : {L : List Part} (Ts : List (List Part)) → Rising order L → Rising order (andor_from L Ts)
 unfolding andor_from
 andor_from_rising [] R = R
-andor_from_rising {L} (T ∷ Ts) R = andor_from_rising Ts (grown_rising L T)
+andor_from_rising {L} (T ∷ Ts) R = andor_from_rising {L = grown L T} Ts (grown_rising L T)
 
 -- the list only grows
 pub andor_from_more : (L : List Part) (Ts : List (List Part)) (q : Part) → q ∈ L → q ∈ andor_from L Ts
@@ -152,6 +152,7 @@ chosen_in (pass {L = L} {Ls = Ls} c) = there (∈_append_left (choices Ls) (map 
 chosen_in (take {L = L} {Ls = Ls} c) = there (∈_append_right (choices Ls) (map (λ C. L ∷ C) (choices Ls)) (∈_map (λ C. L ∷ C) (chosen_in c)))
 
 chosen_of : (Ls : List (List Part)) {C : List (List Part)} → C ∈ choices Ls → Chosen C Ls
+chosen_of [] {C = C} x' = elim x' [ ]
 chosen_of (L ∷ Ls) (here e) = rw e just
 chosen_of (L ∷ Ls) (there m) = elim (∈_append_cases (choices Ls) (map (λ C. L ∷ C) (choices Ls)) m) [
   | inl i ↦ pass (chosen_of Ls i)

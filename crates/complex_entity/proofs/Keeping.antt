@@ -18,11 +18,13 @@ or_yes false b t = inr t
 
 yes_or : (a b : Bool) → T a ⊎ T b → T (a || b)
 yes_or true b t = tt
+yes_or false b (inl x'') = elim x'' [ ]
 yes_or false b (inr t) = t
 
 -- ---- those that meet a test
 module _ {A : Type 0} (f : A → Bool) where
   pub keep_old : (l : List A) {q : A} → q ∈ keep f l → (q ∈ l) × T (f q)
+  keep_old [] {q = q} m = elim m [ ]
   keep_old (a ∷ l) {q} m = go (f a) refl (keep_old l) m
     where
       go : (b : Bool) → f a ≡ b → (q ∈ keep f l → (q ∈ l) × T (f q)) → q ∈ keep_if b a (keep f l) → (q ∈ (a ∷ l)) × T (f q)
@@ -31,6 +33,7 @@ module _ {A : Type 0} (f : A → Bool) where
       go false e h n = let r = h n in (there r.0, r.1)
 
   pub keep_new : (l : List A) {q : A} → q ∈ l → T (f q) → q ∈ keep f l
+  keep_new [] {q = q} m t = elim m [ ]
   keep_new (a ∷ l) {q} m t = go (f a) refl m (λ n. keep_new l n t)
     where
       go : (b : Bool) → f a ≡ b → q ∈ (a ∷ l) → (q ∈ l → q ∈ keep f l) → q ∈ keep_if b a (keep f l)
@@ -41,24 +44,29 @@ module _ {A : Type 0} (f : A → Bool) where
 
   -- some element meets the test
   pub any_out : (l : List A) → T (any f l) → (q : A) × (q ∈ l) × T (f q)
+  any_out [] t = elim t [ ]
   any_out (a ∷ l) t = elim (or_yes (f a) (any f l) t) [
     | inl h ↦ (a, here refl, h)
     | inr h ↦ let r = any_out l h in (r.0, there r.1, r.2)
   ]
 
   pub any_in : (l : List A) {q : A} → q ∈ l → T (f q) → T (any f l)
+  any_in [] {q = q} x'' t = elim x'' [ ]
   any_in (a ∷ l) (here e) t = yes_or (f a) (any f l) (inl (rw e at t))
   any_in (a ∷ l) (there m) t = yes_or (f a) (any f l) (inr (any_in l m t))
 
 -- ---- what contains what
 pub has_out : (p : Part) (n : ℕ) → T (has_name p n) → n ∈ p
+has_out [] n t = elim t [ ]
 has_out (m ∷ p) n t = elim (or_yes (eqb m n) (has_name p n) t) [ inl e ↦ here (sym (eqb→eq m n e)) | inr s ↦ there (has_out p n s) ]
 
 pub has_in : (p : Part) (n : ℕ) → n ∈ p → T (has_name p n)
+has_in [] n x' = elim x' [ ]
 has_in (m ∷ p) n (here e) = yes_or (eqb m n) (has_name p n) (inl (rw e (eqb_refl m)))
 has_in (m ∷ p) n (there i) = yes_or (eqb m n) (has_name p n) (inr (has_in p n i))
 
 pub contains_out : (p q : Part) → T (contains p q) → (n : ℕ) → n ∈ q → n ∈ p
+contains_out p [] t n x'' = elim x'' [ ]
 contains_out p (m ∷ q) t n (here e) = rw e (has_out p m (and_yes (has_name p m) (contains p q) t).0)
 contains_out p (m ∷ q) t n (there i) = contains_out p q (and_yes (has_name p m) (contains p q) t).1 n i
 

@@ -20,6 +20,7 @@ abbrev pub Narrow : List Part → Type 0
 Narrow L = (q : Part) → q ∈ L → length q ≤ 12
 
 pub narrow_out : (L : List Part) → T (all_narrow L) → Narrow L
+narrow_out [] t q x'' = elim x'' [ ]
 narrow_out (p ∷ L) t q (here e) = rw e (leb→le (length p) 12 (and_yes (narrow p) (all_narrow L) t).0)
 narrow_out (p ∷ L) t q (there m) = narrow_out L (and_yes (narrow p) (all_narrow L) t).1 q m
 

@@ -46,10 +46,12 @@ none_bad (another {x = x} {y = y} {l = l} h k g) = go (leb x y && leb y last_ind
 
 -- ---- what is left when neighbouring repeats are dropped
 pub dedup_old : (l : List ℕ) {n : ℕ} → n ∈ dedup l → n ∈ l
+dedup_old [] {n = n} x' = elim x' [ ]
 dedup_old (x ∷ l) (here e) = here e
 dedup_old (x ∷ l) (there m) = there (old x l m)
   where
     old : (x : ℕ) (l : List ℕ) {n : ℕ} → n ∈ after x l → n ∈ l
+    old x [] {n = n} m = elim m [ ]
     old x (y ∷ l) {n} m = go (eqb x y) (old x l) (old y l) m
       where
         go : (b : Bool) → (n ∈ after x l → n ∈ l) → (n ∈ after y l → n ∈ l) → n ∈ cond b (after x l) (y ∷ after y l) → n ∈ (y ∷ l)
@@ -58,10 +60,12 @@ dedup_old (x ∷ l) (there m) = there (old x l m)
         go false f g (there m) = there (g m)
 
 pub dedup_new : (l : List ℕ) {n : ℕ} → n ∈ l → n ∈ dedup l
+dedup_new [] {n = n} x' = elim x' [ ]
 dedup_new (x ∷ l) (here e) = here e
 dedup_new (x ∷ l) (there m) = new x l m
   where
     new : (x : ℕ) (l : List ℕ) {n : ℕ} → n ∈ l → n ∈ (x ∷ after x l)
+    new x [] {n = n} m = elim m [ ]
     new x (y ∷ l) {n} m = go (eqb x y) (λ t. eqb→eq x y t) m (new x l) (new y l)
       where
         go : (b : Bool) → (T b → x ≡ y) → n ∈ (y ∷ l) → (n ∈ l → n ∈ (x ∷ after x l)) → (n ∈ l → n ∈ (y ∷ after y l)) → n ∈ (x ∷ cond b (after x l) (y ∷ after y l))
@@ -86,6 +90,7 @@ dedup_rising nothing = empty
 dedup_rising (another h k g) = after_rising g
 
 dedup_small : {x : ℕ} {l : List ℕ} → Good x l → (n : ℕ) → n ∈ l → n ≤ last_index
+dedup_small nothing n x7 = elim x7 [ ]
 dedup_small (another h k g) n (here e) = omega arith
 dedup_small (another h k g) n (there m) = dedup_small g n m
 

@@ -12,6 +12,7 @@ use Rattle.complex_entity.proofs.Orders.{nat_order, part_order}
 
 -- ---- members of lists put together
 pub ∈_append_left : {A : Type 0} {a : A} (k l : List A) → a ∈ k → a ∈ (k ++ l)
+∈_append_left {A = A} {a = a} [] l x' = elim x' [ ]
 ∈_append_left (b ∷ k) l (here e) = here e
 ∈_append_left (b ∷ k) l (there m) = there (∈_append_left k l m)
 
@@ -29,16 +30,19 @@ pub ∈_map : {A B : Type 0} (f : A → B) {a : A} {l : List A} → a ∈ l → 
 ∈_map f (there m) = there (∈_map f m)
 
 pub ∈_of_map : {A B : Type 0} (f : A → B) {b : B} (l : List A) → b ∈ map f l → (a : A) × (a ∈ l) × (b ≡ f a)
+∈_of_map {A = A} {B = B} f {b = b} [] x' = elim x' [ ]
 ∈_of_map f (x ∷ l) (here e) = (x, here refl, e)
 ∈_of_map f (x ∷ l) (there m) = let r = ∈_of_map f l m in (r.0, there r.1, r.2)
 
 pub ∈_flatten : {A : Type 0} {a : A} {L : List A} {Ls : List (List A)} → L ∈ Ls → a ∈ L → a ∈ flatten Ls
 unfolding flatten
+∈_flatten {A = A} {a = a} {L = L} {Ls = []} x5 m = elim x5 [ ]
 ∈_flatten {L = L} {Ls = K ∷ Ks} (here e) m = ∈_append_left K (flatten Ks) (rw e at m)
 ∈_flatten {L = L} {Ls = K ∷ Ks} (there i) m = ∈_append_right K (flatten Ks) (∈_flatten i m)
 
 pub ∈_of_flatten : {A : Type 0} {a : A} (Ls : List (List A)) → a ∈ flatten Ls → (L : List A) × (L ∈ Ls) × (a ∈ L)
 unfolding flatten
+∈_of_flatten {A = A} {a = a} [] m = elim m [ ]
 ∈_of_flatten (K ∷ Ks) m = elim (∈_append_cases K (flatten Ks) m) [
   | inl i ↦ (K, here refl, i)
   | inr j ↦ let r = ∈_of_flatten Ks j in (r.0, there r.1, r.2)
@@ -122,6 +126,7 @@ pub data Joined (L K : List Part) (r : Part) : Type 0 where
 
 pub joins_old : (L K : List Part) {r : Part} → r ∈ joins L K → Joined L K r
 unfolding flat_map
+joins_old [] K {r = r} m = elim m [ ]
 joins_old (p ∷ L) K m = elim (∈_append_cases (map (join p) K) (joins L K) m) [
   | inl n ↦ let x = ∈_of_map (join p) K n in joined (here refl) x.1 x.2
   | inr n ↦ elim (joins_old L K n) [ joined i j e ↦ joined (there i) j e ]

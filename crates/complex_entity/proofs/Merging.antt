@@ -31,6 +31,8 @@ merge_old (x ∷ xs) (y ∷ ys) {q} m = go (nat_view x y) (merge_old xs (y ∷ y
 
 merge_new : (k l : Part) {q : ℕ} → (q ∈ k) ⊎ (q ∈ l) → q ∈ merge k l
 unfolding merge
+merge_new [] l {q = q} (inl m) = elim m [ ]
+merge_new (x ∷ xs) [] {q = q} (inr m) = elim m [ ]
 merge_new [] l (inr m) = m
 merge_new (x ∷ xs) [] (inl m) = m
 merge_new (x ∷ xs) (y ∷ ys) {q} m = go (nat_view x y) (merge_new xs (y ∷ ys)) (merge_new xs ys) (merge_new (x ∷ xs) ys) m

@@ -65,9 +65,11 @@ module _ {A : Type 0} {cmp : A → A → Ordering} (O : Order cmp) where
 
   -- ---- tidy: the same members, strictly rising
   pub tidy_old : (l : List A) {q : A} → q ∈ tidy cmp l → q ∈ l
+  tidy_old [] {q = q} m = elim m [ ]
   tidy_old (a ∷ l) m = elim (sort_in_old a (tidy cmp l) m) [ inl e ↦ here e | inr n ↦ there (tidy_old l n) ]
 
   pub tidy_new : (l : List A) {q : A} → q ∈ l → q ∈ tidy cmp l
+  tidy_new [] {q = q} x' = elim x' [ ]
   tidy_new (a ∷ l) (here e) = sort_in_new a (tidy cmp l) (inl e)
   tidy_new (a ∷ l) (there m) = sort_in_new a (tidy cmp l) (inr (tidy_new l m))
 
