@@ -19,10 +19,10 @@ value_of over L K = done (div L K)
 -- ---- of several lists
 
 pub data Several : Type 0 where
-  one_of_lem every_of Some-of : Several
+  one_of every_of some_of : Several
 
 -- ONEOF, AND, ANDOR
 unfoldable pub value_of_all : Several → List (List Part) → Answer (List Part)
-value_of_all one_of_lem Ls = oneof_of Ls
+value_of_all one_of Ls = oneof_of Ls
 value_of_all every_of Ls = and_of Ls
-value_of_all Some-of Ls = andor_of Ls
+value_of_all some_of Ls = andor_of Ls

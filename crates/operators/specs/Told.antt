@@ -12,6 +12,6 @@ told_operator Sub = meaning.minus
 told_operator Div = meaning.over
 
 abbrev pub told_several : Several → meaning.Several
-told_several Oneof = meaning.one_of_lem
+told_several Oneof = meaning.one_of
 told_several And = meaning.every_of
 told_several Andor = meaning.some_of
