@@ -20,6 +20,7 @@ use Rattle.rows.specs.MirrorRows.{parts_at}
 -- ---- what is read
 pub parts_narrow : (n : ℕ) (l : List ℕ) → Narrow (parts_at n l)
 unfolding parts_at
+parts_narrow zero l q x' = elim x' [ ]
 parts_narrow (suc n) l q (here e) = rw e (part_at_few l)
 parts_narrow (suc n) l q (there m) = parts_narrow n (drop 13 l) q m
 
