@@ -1,0 +1,13 @@
+-- `is_letter` tells the letters.
+use borrow.Author.Rules.{rules}
+use Rattle.sheet.proofs.Spelling.{lettering}
+use Rattle.sheet.proofs.is_letter.Goals as goal
+
+pub returns-then-b-ge97 : goal.returns-then-b-ge97
+returns-then-b-ge97 c = search (lettering, rules)
+
+pub returns-then-b-ge65 : goal.returns-then-b-ge65
+returns-then-b-ge65 c = search (lettering, rules)
+
+pub returns : goal.returns
+returns c = search (lettering, rules)
