@@ -4,7 +4,7 @@
 #![tactic(auto)]
 
 ghost use Rattle.std.specs.Prelude.{◌≡◌};
-ghost use Rattle.operands.specs.MeaningOperands.{a-list, a-part};
+ghost use Rattle.operands.specs.MeaningOperands.{a_list, a_part};
 ghost use Rattle.operands.specs.Told.{told_operand};
 ghost use Rattle.operators.specs.MeaningOperators.{plus, times, minus, over, one_of_lem, every_of, some_of};
 ghost use Rattle.operators.specs.Told.{told_operator, told_several};
@@ -60,7 +60,7 @@ pub fn compare(left: &[u16], right: &[u16]) -> Compared
 }
 
 pub fn join(left: &[u16], right: &[u16], out: &mut [u16]) -> Listed
-    ensures { PromiseTwo times a-part a-part left.now right.now out.old result out.new }
+    ensures { PromiseTwo times a_part a_part left.now right.now out.old result out.new }
 {
     ask_two(
         Operator::Bitand,
@@ -75,7 +75,7 @@ pub fn join(left: &[u16], right: &[u16], out: &mut [u16]) -> Listed
 // ---- lists
 
 pub fn add(left: &[u16], right: &[u16], out: &mut [u16]) -> Listed
-    ensures { PromiseTwo plus a-list a-list left.now right.now out.old result out.new }
+    ensures { PromiseTwo plus a_list a_list left.now right.now out.old result out.new }
 {
     ask_two(
         Operator::Add,
@@ -88,7 +88,7 @@ pub fn add(left: &[u16], right: &[u16], out: &mut [u16]) -> Listed
 }
 
 pub fn add_part(left: &[u16], right: &[u16], out: &mut [u16]) -> Listed
-    ensures { PromiseTwo plus a-list a-part left.now right.now out.old result out.new }
+    ensures { PromiseTwo plus a_list a_part left.now right.now out.old result out.new }
 {
     ask_two(
         Operator::Add,
@@ -101,7 +101,7 @@ pub fn add_part(left: &[u16], right: &[u16], out: &mut [u16]) -> Listed
 }
 
 pub fn part_add(left: &[u16], right: &[u16], out: &mut [u16]) -> Listed
-    ensures { PromiseTwo plus a-part a-list left.now right.now out.old result out.new }
+    ensures { PromiseTwo plus a_part a_list left.now right.now out.old result out.new }
 {
     ask_two(
         Operator::Add,
@@ -114,7 +114,7 @@ pub fn part_add(left: &[u16], right: &[u16], out: &mut [u16]) -> Listed
 }
 
 pub fn bitand(left: &[u16], right: &[u16], out: &mut [u16]) -> Listed
-    ensures { PromiseTwo times a-list a-list left.now right.now out.old result out.new }
+    ensures { PromiseTwo times a_list a_list left.now right.now out.old result out.new }
 {
     ask_two(
         Operator::Bitand,
@@ -127,7 +127,7 @@ pub fn bitand(left: &[u16], right: &[u16], out: &mut [u16]) -> Listed
 }
 
 pub fn bitand_part(left: &[u16], right: &[u16], out: &mut [u16]) -> Listed
-    ensures { PromiseTwo times a-list a-part left.now right.now out.old result out.new }
+    ensures { PromiseTwo times a_list a_part left.now right.now out.old result out.new }
 {
     ask_two(
         Operator::Bitand,
@@ -140,7 +140,7 @@ pub fn bitand_part(left: &[u16], right: &[u16], out: &mut [u16]) -> Listed
 }
 
 pub fn part_bitand(left: &[u16], right: &[u16], out: &mut [u16]) -> Listed
-    ensures { PromiseTwo times a-part a-list left.now right.now out.old result out.new }
+    ensures { PromiseTwo times a_part a_list left.now right.now out.old result out.new }
 {
     ask_two(
         Operator::Bitand,
@@ -153,7 +153,7 @@ pub fn part_bitand(left: &[u16], right: &[u16], out: &mut [u16]) -> Listed
 }
 
 pub fn sub(left: &[u16], right: &[u16], out: &mut [u16]) -> Listed
-    ensures { PromiseTwo minus a-list a-list left.now right.now out.old result out.new }
+    ensures { PromiseTwo minus a_list a_list left.now right.now out.old result out.new }
 {
     ask_two(
         Operator::Sub,
@@ -166,7 +166,7 @@ pub fn sub(left: &[u16], right: &[u16], out: &mut [u16]) -> Listed
 }
 
 pub fn sub_part(left: &[u16], right: &[u16], out: &mut [u16]) -> Listed
-    ensures { PromiseTwo minus a-list a-part left.now right.now out.old result out.new }
+    ensures { PromiseTwo minus a_list a_part left.now right.now out.old result out.new }
 {
     ask_two(
         Operator::Sub,
@@ -179,7 +179,7 @@ pub fn sub_part(left: &[u16], right: &[u16], out: &mut [u16]) -> Listed
 }
 
 pub fn div(left: &[u16], right: &[u16], out: &mut [u16]) -> Listed
-    ensures { PromiseTwo over a-list a-list left.now right.now out.old result out.new }
+    ensures { PromiseTwo over a_list a_list left.now right.now out.old result out.new }
 {
     ask_two(
         Operator::Div,
@@ -192,7 +192,7 @@ pub fn div(left: &[u16], right: &[u16], out: &mut [u16]) -> Listed
 }
 
 pub fn div_part(left: &[u16], right: &[u16], out: &mut [u16]) -> Listed
-    ensures { PromiseTwo over a-list a-part left.now right.now out.old result out.new }
+    ensures { PromiseTwo over a_list a_part left.now right.now out.old result out.new }
 {
     ask_two(
         Operator::Div,

@@ -10,7 +10,7 @@ use lib.Dec.{leb, eqb}
 use Rattle.refusal.specs.MeaningAnswer.{Answer, done, refused, mapped, or_else, ◌>>=◌}
 use Rattle.complex_entity.specs.MeaningParts.{Part, narrow, dedup, bad_after, unless_bad, new_of, last_index, single}
 use Rattle.complex_entity.specs.MeaningLists.{fits, add, bitand, sub, div, held, prefixes, and_of, andor, andor_of, oneof, oneof_of, most_factors}
-use Rattle.operands.specs.MeaningOperands.{rows_in, first_wrong, wanted, unless_wrong, read_lists, read_list, read_part, both, Operand, a-list, a-part, read}
+use Rattle.operands.specs.MeaningOperands.{rows_in, first_wrong, wanted, unless_wrong, read_lists, read_list, read_part, both, Operand, a_list, a_part, read}
 use Rattle.algebra.specs.MeaningQuestions as rows
 use Rattle.operands.specs.MeaningResults.{fitting, one}
 use Rattle.algebra.specs.MeaningQuestions.{ask_new, ask_single, ask_compare, ask_two, ask_several}
@@ -106,8 +106,8 @@ part_marked l = map_marked _ (read_lists (1 ∷ []) l) (lists_marked (1 ∷ []) 
 
 operand_marked : (i : Operand) (l : List ℕ) → Marked (read i l)
 unfolding read read_list
-operand_marked a-list l = map_marked _ (read_lists (length (rows_in l) ∷ []) l) (lists_marked _ l)
-operand_marked a-part l = part_marked l
+operand_marked a_list l = map_marked _ (read_lists (length (rows_in l) ∷ []) l) (lists_marked _ l)
+operand_marked a_part l = part_marked l
 
 held_marked : (L : List Part) → Marked (held L)
 unfolding held

@@ -1,7 +1,7 @@
 // The questions on rows.
 ghost use Rattle.instantiables.specs.Told.{told_listed};
 ghost use Rattle.operators.specs.MeaningOperators.{plus, times, minus, over, one_of_lem, every_of, some_of};
-ghost use Rattle.operands.specs.MeaningOperands.{a-list, a-part};
+ghost use Rattle.operands.specs.MeaningOperands.{a_list, a_part};
 ghost use Rattle.algebra.specs.Promises.{PromiseNew, PromiseSingle, PromiseCompare, PromiseTwo, PromiseSeveral};
 ghost use Rattle.codes.specs.Told.{compared_parts};
 ghost use Rattle.exports.specs.Promises.{Exported};
@@ -44,7 +44,7 @@ pub extern "C" fn dinkolafe_join(
     out: &mut [u16],
     value: &mut u64,
 ) -> u8
-    ensures { Exported told_listed (λ a. PromiseTwo times a-part a-part left.now right.now out.old a out.new) result value.new }
+    ensures { Exported told_listed (λ a. PromiseTwo times a_part a_part left.now right.now out.old a out.new) result value.new }
 {
     let code = of_listed(algebra::join(left, right, out));
     *value = code.value;
@@ -55,7 +55,7 @@ pub extern "C" fn dinkolafe_join(
 
 #[unsafe(no_mangle)]
 pub extern "C" fn dinkolafe_add(left: &[u16], right: &[u16], out: &mut [u16], value: &mut u64) -> u8
-    ensures { Exported told_listed (λ a. PromiseTwo plus a-list a-list left.now right.now out.old a out.new) result value.new }
+    ensures { Exported told_listed (λ a. PromiseTwo plus a_list a_list left.now right.now out.old a out.new) result value.new }
 {
     let code = of_listed(algebra::add(left, right, out));
     *value = code.value;
@@ -69,7 +69,7 @@ pub extern "C" fn dinkolafe_add_part(
     out: &mut [u16],
     value: &mut u64,
 ) -> u8
-    ensures { Exported told_listed (λ a. PromiseTwo plus a-list a-part left.now right.now out.old a out.new) result value.new }
+    ensures { Exported told_listed (λ a. PromiseTwo plus a_list a_part left.now right.now out.old a out.new) result value.new }
 {
     let code = of_listed(algebra::add_part(left, right, out));
     *value = code.value;
@@ -83,7 +83,7 @@ pub extern "C" fn dinkolafe_part_add(
     out: &mut [u16],
     value: &mut u64,
 ) -> u8
-    ensures { Exported told_listed (λ a. PromiseTwo plus a-part a-list left.now right.now out.old a out.new) result value.new }
+    ensures { Exported told_listed (λ a. PromiseTwo plus a_part a_list left.now right.now out.old a out.new) result value.new }
 {
     let code = of_listed(algebra::part_add(left, right, out));
     *value = code.value;
@@ -97,7 +97,7 @@ pub extern "C" fn dinkolafe_bitand(
     out: &mut [u16],
     value: &mut u64,
 ) -> u8
-    ensures { Exported told_listed (λ a. PromiseTwo times a-list a-list left.now right.now out.old a out.new) result value.new }
+    ensures { Exported told_listed (λ a. PromiseTwo times a_list a_list left.now right.now out.old a out.new) result value.new }
 {
     let code = of_listed(algebra::bitand(left, right, out));
     *value = code.value;
@@ -111,7 +111,7 @@ pub extern "C" fn dinkolafe_bitand_part(
     out: &mut [u16],
     value: &mut u64,
 ) -> u8
-    ensures { Exported told_listed (λ a. PromiseTwo times a-list a-part left.now right.now out.old a out.new) result value.new }
+    ensures { Exported told_listed (λ a. PromiseTwo times a_list a_part left.now right.now out.old a out.new) result value.new }
 {
     let code = of_listed(algebra::bitand_part(left, right, out));
     *value = code.value;
@@ -125,7 +125,7 @@ pub extern "C" fn dinkolafe_part_bitand(
     out: &mut [u16],
     value: &mut u64,
 ) -> u8
-    ensures { Exported told_listed (λ a. PromiseTwo times a-part a-list left.now right.now out.old a out.new) result value.new }
+    ensures { Exported told_listed (λ a. PromiseTwo times a_part a_list left.now right.now out.old a out.new) result value.new }
 {
     let code = of_listed(algebra::part_bitand(left, right, out));
     *value = code.value;
@@ -134,7 +134,7 @@ pub extern "C" fn dinkolafe_part_bitand(
 
 #[unsafe(no_mangle)]
 pub extern "C" fn dinkolafe_sub(left: &[u16], right: &[u16], out: &mut [u16], value: &mut u64) -> u8
-    ensures { Exported told_listed (λ a. PromiseTwo minus a-list a-list left.now right.now out.old a out.new) result value.new }
+    ensures { Exported told_listed (λ a. PromiseTwo minus a_list a_list left.now right.now out.old a out.new) result value.new }
 {
     let code = of_listed(algebra::sub(left, right, out));
     *value = code.value;
@@ -148,7 +148,7 @@ pub extern "C" fn dinkolafe_sub_part(
     out: &mut [u16],
     value: &mut u64,
 ) -> u8
-    ensures { Exported told_listed (λ a. PromiseTwo minus a-list a-part left.now right.now out.old a out.new) result value.new }
+    ensures { Exported told_listed (λ a. PromiseTwo minus a_list a_part left.now right.now out.old a out.new) result value.new }
 {
     let code = of_listed(algebra::sub_part(left, right, out));
     *value = code.value;
@@ -157,7 +157,7 @@ pub extern "C" fn dinkolafe_sub_part(
 
 #[unsafe(no_mangle)]
 pub extern "C" fn dinkolafe_div(left: &[u16], right: &[u16], out: &mut [u16], value: &mut u64) -> u8
-    ensures { Exported told_listed (λ a. PromiseTwo over a-list a-list left.now right.now out.old a out.new) result value.new }
+    ensures { Exported told_listed (λ a. PromiseTwo over a_list a_list left.now right.now out.old a out.new) result value.new }
 {
     let code = of_listed(algebra::div(left, right, out));
     *value = code.value;
@@ -171,7 +171,7 @@ pub extern "C" fn dinkolafe_div_part(
     out: &mut [u16],
     value: &mut u64,
 ) -> u8
-    ensures { Exported told_listed (λ a. PromiseTwo over a-list a-part left.now right.now out.old a out.new) result value.new }
+    ensures { Exported told_listed (λ a. PromiseTwo over a_list a_part left.now right.now out.old a out.new) result value.new }
 {
     let code = of_listed(algebra::div_part(left, right, out));
     *value = code.value;

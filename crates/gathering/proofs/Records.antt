@@ -33,7 +33,7 @@ use Rattle.declarations.specs.declared.Found.{Found}
 use Rattle.declarations.specs.declared.Found.TheVariants as found
 use Rattle.records.proofs.Records.{Became, became, kept_done, kept_none, kept_refused, kept_same, refused_so, still_stands}
 use Rattle.records.specs.MeaningResolving.{rule_of, resolved_expr, own_path}
-use Rattle.records.specs.MirrorRecords.{size, level, behind, number_meant, own_number, word_at, expr_in, Spelt, SpellsExpr, no_expr, there, Stands, Kept, Within, Room, schema_named, recordKept, told_filled}
+use Rattle.records.specs.MirrorRecords.{size, level, behind, number_meant, own_number, word_at, expr_in, Spelt, SpellsExpr, no_expr, there, Stands, Kept, Within, Room, schema_named, record_kept, told_filled}
 use Rattle.records.specs.declared.Filled.{Filled}
 use Rattle.records.specs.declared.Filled.TheVariants.{To, Refused}
 use Rattle.gathering.specs.MirrorGathering.{given, marked_by, rule_kept, constraint_kept}
@@ -104,7 +104,7 @@ module _ (rd : Reading) (s : List ℕ) (at e used : ℕ) (w₀ : List ℕ) (R : 
         less_room R (rw z (le_refl (size (expr_in s t a b)))) (rw z (le_refl (level (expr_in s t a b))))
 
     module _ (xs : List Schema) (w : List ℕ) (place owner : ℕ) (O : owner ≡ own_number rd xs (schema_named w) (entity_of 0 (tree_at s at e))) (r : Filled) (w₁ : List ℕ)
-        (K : Kept (recordKept rd xs w owner (expr_in s t a b)) (told_filled r) used w₀ w₁) where
+        (K : Kept (record_kept rd xs w owner (expr_in s t a b)) (told_filled r) used w₀ w₁) where
       -- what is kept, once the expression is resolved
       resolved_first : (cs : List (Combined ℕ)) → item_kept rd xs Rules (schema_named w) place (tree_at s at e) cs
           ≡ (resolved_expr (number_meant rd xs) (schema_scope w) (expr_in s t a b) >>= λ d. vacant eqb place (find eqb owner cs) (behind cs owner d))
@@ -112,7 +112,7 @@ module _ (rd : Reading) (s : List ℕ) (at e used : ℕ) (w₀ : List ℕ) (R : 
       resolved_first cs = rw ((spelt S t a b q).is, O) refl
 
       pub rule_handed : (why : Refusal) → r ≡ Refused why → Kept (item_kept rd xs Rules (schema_named w) place (tree_at s at e)) (told_filled r) used w₀ w₁
-      unfolding told_filled recordKept
+      unfolding told_filled record_kept
       rule_handed why z =
           let cs = R.front.list in
           let f = refused_so K cs R.front.stands why.number why.place (ap told_filled z) in
@@ -123,13 +123,13 @@ module _ (rd : Reading) (s : List ℕ) (at e used : ℕ) (w₀ : List ℕ) (R : 
           by (refused m j) k = k
 
       module _ (n : ℕ) (z : r ≡ To n) where
-        made : Became (recordKept rd xs w owner (expr_in s t a b)) R.front.list n w₁
+        made : Became (record_kept rd xs w owner (expr_in s t a b)) R.front.list n w₁
         unfolding told_filled
         made = became K R.front.list R.front.stands n (ap told_filled z)
 
         -- the expression that was resolved
         taken : (d : Expr ℕ) × (resolved_expr (number_meant rd xs) (schema_scope w) (expr_in s t a b) ≡ done d) × (behind R.front.list owner d ≡ made.list)
-        unfolding recordKept
+        unfolding record_kept
         taken = by (resolved_expr (number_meant rd xs) (schema_scope w) (expr_in s t a b)) made.is
           where
             by : {ds : List (Combined ℕ)} (o : Answer (Expr ℕ)) → (o >>= λ d. done (behind R.front.list owner d)) ≡ done ds → (d : Expr ℕ) × (o ≡ done d) × (behind R.front.list owner d ≡ ds)
@@ -170,15 +170,15 @@ module _ (s : List ℕ) (at e used : ℕ) (w₀ : List ℕ) (R : Room (item_size
       unfolding word_at span_of
       the_name = rw (span_bytes s (name_of (tree_at s at e)) i I L, I) refl
 
-      owner_first : (cs : List (Combined ℕ)) → item_kept rd xs Constraints (schema_named w) 0 (tree_at s at e) cs ≡ (told_found f >>= λ p. recordKept rd xs w p (expr_in s t a b) cs)
-      unfolding item_kept constraint_kept recordKept scope_in schema_named schema_scope constraint_of
+      owner_first : (cs : List (Combined ℕ)) → item_kept rd xs Constraints (schema_named w) 0 (tree_at s at e) cs ≡ (told_found f >>= λ p. record_kept rd xs w p (expr_in s t a b) cs)
+      unfolding item_kept constraint_kept record_kept scope_in schema_named schema_scope constraint_of
       owner_first cs = rw ((spelt S t a b q).is, F, the_name) refl
 
       pub con_lost : (why : Refusal) → f ≡ found.Refused why → Kept (item_kept rd xs Constraints (schema_named w) 0 (tree_at s at e)) (told_filled (Refused why)) used w₀ w₀
       unfolding told_filled told_found
       con_lost why z = kept_refused w₀ R.front.list why.number why.place R.front.stands (owner_first R.front.list ∙ rw z refl)
 
-      pub con_made : (p : ℕ) → f ≡ found.Number p → (r : Answer ℕ) (w₁ : List ℕ) → Kept (recordKept rd xs w p (expr_in s t a b)) r used w₀ w₁ → Kept (item_kept rd xs Constraints (schema_named w) 0 (tree_at s at e)) r used w₀ w₁
+      pub con_made : (p : ℕ) → f ≡ found.Number p → (r : Answer ℕ) (w₁ : List ℕ) → Kept (record_kept rd xs w p (expr_in s t a b)) r used w₀ w₁ → Kept (item_kept rd xs Constraints (schema_named w) 0 (tree_at s at e)) r used w₀ w₁
       unfolding told_found
       con_made p z r w₁ K = kept_same _ (λ cs. sym (owner_first cs ∙ rw z refl)) K
 

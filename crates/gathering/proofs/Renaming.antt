@@ -88,15 +88,15 @@ module _ {N M : Type 0} (f : N → M) (same : N → N → Bool) (same' : M → M
       follow_bind (λ p. done (map (map_pair f) ps ++ (record { super = p; sub = itself' x e } ∷ []))) (meant (scope_in x) n)
       (λ p G. has (each_last (GoodPair Good) ps (record { super = p; sub = itself x e }) P (G, S)) (rw (own x e) (ap done (map_last (map_pair f) ps (record { super = p; sub = itself x e })))))
 
-  module _ (rd : Reading) (xs : List Schema) (goodOwn : (x : Schema) → x ∈ xs → (e : Entity) → e ∈ x.entities → Good (itself x e)) where
+  module _ (rd : Reading) (xs : List Schema) (good_own : (x : Schema) → x ∈ xs → (e : Entity) → e ∈ x.entities → Good (itself x e)) where
     pub streams_renamed : Follows (λ (both : List (Combined N) × List (Pair N)). (map (map_combined f) both.0, map (map_pair f) both.1)) (λ both. Each (GoodCombined Good) both.0 × Each (GoodPair Good) both.1)
         (streams_of same means itself rd xs) (streams_of same' means' itself' rd xs)
     unfolding streams_of rules_kept constraints_kept step_c Each
     streams_renamed =
         follow_bind _ (follow_through (rules_kept same means itself rd) (rules_kept same' means' itself' rd) xs
-        (λ x m cs C. follow_through _ _ x.entities (λ e k ds D. rule_renamed x e (goodOwn x m e k) (rule_of rd e.mark) ds D) cs C) [] tt)
+        (λ x m cs C. follow_through _ _ x.entities (λ e k ds D. rule_renamed x e (good_own x m e k) (rule_of rd e.mark) ds D) cs C) [] tt)
         (λ cs C. follow_bind _ (follow_through (constraints_kept same means itself) (constraints_kept same' means' itself') xs
         (λ x m cs C. follow_through _ _ x.constraints (λ c k ds D. constraint_renamed x c c.expr ds D) cs C) cs C)
         (λ ds D. follow_bind _ (follow_through _ _ xs
-        (λ x m ps P. follow_through _ _ x.entities (λ e k qs Q. follow_through _ _ (supers_of e.supertypes) (λ n j rs R. subtype_renamed x e (goodOwn x m e k) n rs R) qs Q) ps P) [] tt)
+        (λ x m ps P. follow_through _ _ x.entities (λ e k qs Q. follow_through _ _ (supers_of e.supertypes) (λ n j rs R. subtype_renamed x e (good_own x m e k) n rs R) qs Q) ps P) [] tt)
         (λ ps P. has (D, P) refl)))

@@ -8,7 +8,7 @@ use lib.Dec.{eqb}
 use lib.ListN.{drop}
 use Rattle.grammar.specs.MeaningGrammar.{Slot, Often, one_of, needed, again, Fills}
 use Rattle.grammar.specs.MeaningGrammar.Fills.{done, skip, last, more}
-use Rattle.grammar.specs.MeaningGrammar.Often.{one, atMostOne, any}
+use Rattle.grammar.specs.MeaningGrammar.Often.{one, at_most_one, any}
 use Rattle.grammar.proofs.Choosing.{clash}
 
 -- ---- what the slots that are left say
@@ -101,7 +101,7 @@ may_tags (x ∷ xs) t q = go (one_of x.tags t) refl (needed x.often) q (may_tags
 not_needed : (o : Often) → again o ≡ true → needed o ≡ false
 unfolding again needed
 not_needed one q = clash (cc)
-not_needed atMostOne q = refl
+not_needed at_most_one q = refl
 not_needed any q = refl
 
 abbrev pub Starts : List Slot → ℕ → List ℕ → Type 0

@@ -10,7 +10,7 @@ one_of (u ∷ us) t = cond (eqb u t) true (one_of us t)
 
 -- how often a field stands: "one 10", "at most one 34" or "nothing or one expression", "any 20s" or "any number of 10s"
 pub data Often : Type 0 where
-  one atMostOne any : Often
+  one at_most_one any : Often
 
 -- fields with one of these tags, so often
 pub record Slot : Type 0 where
@@ -42,15 +42,15 @@ grammar =
     -- 20 type: "one 10, then one of 21 to 24"
     ∷ line 0x20 (slot (0x10 ∷ []) one ∷ slot (0x21 ∷ 0x22 ∷ 0x23 ∷ 0x24 ∷ []) one ∷ [])
     -- 30 entity: "one 10, then at most one of 31, 32, 33, then at most one 34"
-    ∷ line 0x30 (slot (0x10 ∷ []) one ∷ slot (0x31 ∷ 0x32 ∷ 0x33 ∷ []) atMostOne ∷ slot (0x34 ∷ []) atMostOne ∷ [])
+    ∷ line 0x30 (slot (0x10 ∷ []) one ∷ slot (0x31 ∷ 0x32 ∷ 0x33 ∷ []) at_most_one ∷ slot (0x34 ∷ []) at_most_one ∷ [])
     -- 31 supertype rule: "one expression"
     ∷ line 0x31 (slot expressions one ∷ [])
     -- 33 abstract supertype: "nothing or one expression"
-    ∷ line 0x33 (slot expressions atMostOne ∷ [])
+    ∷ line 0x33 (slot expressions at_most_one ∷ [])
     -- 34 SUBTYPE OF: "any number of 10s"
     ∷ line 0x34 (slot (0x10 ∷ []) any ∷ [])
     -- 40 subtype constraint: "one 10 (the entity), then nothing or one expression"
-    ∷ line 0x40 (slot (0x10 ∷ []) one ∷ slot expressions atMostOne ∷ [])
+    ∷ line 0x40 (slot (0x10 ∷ []) one ∷ slot expressions at_most_one ∷ [])
     -- 51 ANDOR, 52 AND, 53 ONEOF: "any number of expressions"
     ∷ line 0x51 (slot expressions any ∷ [])
     ∷ line 0x52 (slot expressions any ∷ [])
@@ -68,13 +68,13 @@ slots_of p = slots_in grammar p
 -- must a slot have a field?
 unfoldable pub needed : Often → Bool
 needed one = true
-needed atMostOne = false
+needed at_most_one = false
 needed any = false
 
 -- may it have more than one?
 unfoldable pub again : Often → Bool
 again one = false
-again atMostOne = false
+again at_most_one = false
 again any = true
 
 -- these are the tags of a whole value with these slots: slot after slot, as often as each says

@@ -6,7 +6,7 @@ use Rattle.std.specs.Prelude.{ℕ, suc, List, [], ◌∷◌, ◌++◌, map, cond
 use Rattle.grammar.specs.MeaningReading.{answers}
 use Rattle.grammar.specs.MeaningReading.Reading.{rust}
 use Rattle.grammar.specs.MeaningGrammar.{Often, Slot, slot, expressions, Line, line, grammar, one_of, Kind, kind_of, most_name_bytes, most_bytes, counts}
-use Rattle.grammar.specs.MeaningGrammar.Often.{one, atMostOne, any}
+use Rattle.grammar.specs.MeaningGrammar.Often.{one, at_most_one, any}
 use Rattle.grammar.specs.MeaningGrammar.Kind.{name, simple, empty, fields}
 use Rattle.grammar.specs.MeaningGrammar.Limit.{schemas, declarations, constraints, terms}
 
@@ -28,12 +28,12 @@ levels_of t = cond (one_of expressions t) 1 0
 -- state k: the slots before k are over. A slot may be entered from the state after the last needed slot before it
 unfoldable pub state_after : Often → ℕ → ℕ
 state_after one k = suc k
-state_after atMostOne k = suc k
+state_after at_most_one k = suc k
 state_after any k = k
 
 unfoldable pub least_after : Often → ℕ → ℕ → ℕ
 least_after one lo k = suc k
-least_after atMostOne lo k = lo
+least_after at_most_one lo k = lo
 least_after any lo k = lo
 
 unfoldable pub rows_of_slots : ℕ → ℕ → ℕ → List Slot → List (List ℕ)

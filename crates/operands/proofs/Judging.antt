@@ -11,7 +11,7 @@ use lib.Seq.{drop-cons, drop-drop}
 use Rattle.instantiables.proofs.Listings.{tail_is}
 use Rattle.operands.specs.declared.Read.{Read}
 use Rattle.operands.specs.declared.Read.TheVariants.{Whole, Wrong}
-use Rattle.operands.specs.MeaningOperands.{rows_in, numbers_from, wanted, first_wrong, a-list}
+use Rattle.operands.specs.MeaningOperands.{rows_in, numbers_from, wanted, first_wrong, a_list}
 use Rattle.operands.specs.MirrorOperands.{good_from, read_of, judged, counts_of}
 use Rattle.operands.specs.Told.{told_operand}
 use Rattle.operands.specs.declared.Operand as code
@@ -74,7 +74,7 @@ pub ruleset judging = (judge_start, judge_surplus, judge_done, judge_wrong, judg
 
 -- ---- one operand
 module _ (rows : List ℕ) (r : Read) where
-  pub list_short : r ≡ judged ((length rows + 12) / 13 ∷ []) rows → r ≡ judged (counts_of a-list rows) rows
+  pub list_short : r ≡ judged ((length rows + 12) / 13 ∷ []) rows → r ≡ judged (counts_of a_list rows) rows
   list_short e =
       let n = rows_count (length rows) rows (omega arith) in
       let s : (length rows + 12) / 13 ≡ length (rows_in rows) = omega (arith, n.0, n.1) in
@@ -86,7 +86,7 @@ module _ (rows : List ℕ) (r : Read) where
   too_many n h =
       rw (run_stops (run 0 n rows) (omega (arith, run_most (run 0 n rows) (omega arith))) 0 []) (ap (λ (k : ℕ). Wrong k) (zero-add (good_from 0 n rows)))
 
-  pub list_long : 1664 < length rows → r ≡ judged (129 ∷ []) rows → r ≡ judged (counts_of a-list rows) rows
+  pub list_long : 1664 < length rows → r ≡ judged (129 ∷ []) rows → r ≡ judged (counts_of a_list rows) rows
   list_long h e =
       let n = rows_count (length rows) rows (omega arith) in
       let s : 128 < length (rows_in rows) = omega (arith, n.1) in
@@ -95,7 +95,7 @@ module _ (rows : List ℕ) (r : Read) where
       ∙ sym (too_many (length (rows_in rows)) s)
 
   module _ (i : code.Operand) where
-    pub as_list : i ≡ operand.List → r ≡ judged (counts_of a-list rows) rows → r ≡ judged (counts_of (told_operand i) rows) rows
+    pub as_list : i ≡ operand.List → r ≡ judged (counts_of a_list rows) rows → r ≡ judged (counts_of (told_operand i) rows) rows
     as_list e w = rw e w
 
     pub as_part : i ≡ operand.Part → r ≡ judged (1 ∷ []) rows → r ≡ judged (counts_of (told_operand i) rows) rows

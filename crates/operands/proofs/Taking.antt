@@ -23,7 +23,7 @@ use Rattle.instantiables.specs.MirrorRows.{lists_at, sum, AllSets}
 use Rattle.rows.proofs.Flats.{parts_length, flat_append}
 use Rattle.operands.specs.declared.Read.{Read}
 use Rattle.operands.specs.declared.Read.TheVariants.{Whole, Wrong}
-use Rattle.operands.specs.MeaningOperands.{is_row, names_in, rows_in, numbers_from, wanted, first_wrong, dealt, read_lists, read_list, read_part, Operand, a-list, a-part, read}
+use Rattle.operands.specs.MeaningOperands.{is_row, names_in, rows_in, numbers_from, wanted, first_wrong, dealt, read_lists, read_list, read_part, Operand, a_list, a_part, read}
 use Rattle.operands.specs.MirrorOperands.{good_from, read_of, judged, counts_of, Operable}
 use Rattle.operands.specs.Claims.{Good, AllGood, FirstBad}
 use Rattle.operands.proofs.Cuts.{clash, rows_nil, rows_cons, rows_count, Run, ends, stops, goes, run, run_stops, run_on, run_there, run_few, run_most}
@@ -169,16 +169,16 @@ module _ (i : Operand) (l : List ℕ) (r : Read) (w : r ≡ judged (counts_of i 
   operand_operable = go i (sym w ∙ e)
     where
       go : (i : Operand) → judged (counts_of i l) l ≡ Whole → Operable l
-      go a-list u = (operable (length (rows_in l)) l u).1
-      go a-part u = (operable 1 l u).1
+      go a_list u = (operable (length (rows_in l)) l u).1
+      go a_part u = (operable 1 l u).1
 
   pub operand_says : read i l ≡ done (parts_at (length l / 13) l)
   unfolding read read_list read_part
   operand_says = go i (sym w ∙ e)
     where
       go : (i : Operand) → judged (counts_of i l) l ≡ Whole → read i l ≡ done (parts_at (length l / 13) l)
-      go a-list u = lone_says (length (rows_in l)) l u ∙ ap (λ (n : ℕ). done (parts_at n l)) (operable (length (rows_in l)) l u).0
-      go a-part u = lone_says 1 l u ∙ ap (λ (n : ℕ). done (parts_at n l)) (operable 1 l u).0
+      go a_list u = lone_says (length (rows_in l)) l u ∙ ap (λ (n : ℕ). done (parts_at n l)) (operable (length (rows_in l)) l u).0
+      go a_part u = lone_says 1 l u ∙ ap (λ (n : ℕ). done (parts_at n l)) (operable 1 l u).0
 
 -- ---- something is wrong
 wrong_is : (o : Option ℕ) (k : ℕ) → read_of o ≡ Wrong k → o ≡ some k
@@ -195,8 +195,8 @@ unfolding read read_list read_part
 operand_wrong i l r k w e = go i (sym w ∙ e)
   where
     go : (i : Operand) → judged (counts_of i l) l ≡ Wrong k → read i l ≡ refused 15 k
-    go a-list u = rw (wrong_says (length (rows_in l) ∷ []) l k u) refl
-    go a-part u = rw (wrong_says (1 ∷ []) l k u) refl
+    go a_list u = rw (wrong_says (length (rows_in l) ∷ []) l k u) refl
+    go a_part u = rw (wrong_says (1 ∷ []) l k u) refl
 
 -- one part
 pub part_says : (l : List ℕ) → judged (1 ∷ []) l ≡ Whole → read_part l ≡ done (part_at l ∷ [])

@@ -81,11 +81,11 @@ read_part l = mapped flatten (read_lists (1 ∷ []) l)
 
 -- an operand is a list or a part
 pub data Operand : Type 0 where
-  a-list a-part : Operand
+  a_list a_part : Operand
 
 unfoldable pub read : Operand → List ℕ → Answer (List Part)
-read a-list l = read_list l
-read a-part l = read_part l
+read a_list l = read_list l
+read a_part l = read_part l
 
 -- the part of an operand that is one
 abbrev pub part : List Part → Part

@@ -5,7 +5,7 @@ use Rattle.complex_entity.specs.MeaningParts.{Part}
 use Rattle.complex_entity.specs.MeaningLists.{most_parts}
 use Rattle.rows.specs.MirrorRows.{parts_at}
 use Rattle.instantiables.specs.MirrorRows.{Sets}
-use Rattle.operands.specs.MeaningOperands.{is_row, first_wrong, wanted, rows_in, Operand, a-list, a-part}
+use Rattle.operands.specs.MeaningOperands.{is_row, first_wrong, wanted, rows_in, Operand, a_list, a_part}
 use Rattle.operands.specs.declared.Read.{Read}
 use Rattle.operands.specs.declared.Read.TheVariants.{Whole, Wrong}
 
@@ -24,8 +24,8 @@ judged counts rows = read_of (first_wrong 0 (wanted counts) (rows_in rows))
 
 -- how many rows an operand is to have: a list as many as there are
 abbrev pub counts_of : Operand → List ℕ → List ℕ
-counts_of a-list rows = length (rows_in rows) ∷ []
-counts_of a-part rows = 1 ∷ []
+counts_of a_list rows = length (rows_in rows) ∷ []
+counts_of a_part rows = 1 ∷ []
 
 -- the parts of an operand of whole rows
 abbrev pub parts_in : List ℕ → List Part

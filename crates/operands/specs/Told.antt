@@ -4,5 +4,5 @@ use Rattle.operands.specs.declared.Operand.{Operand}
 use Rattle.operands.specs.declared.Operand.TheVariants.{List, Part}
 
 abbrev pub told_operand : Operand → meaning.Operand
-told_operand List = meaning.a-list
-told_operand Part = meaning.a-part
+told_operand List = meaning.a_list
+told_operand Part = meaning.a_part

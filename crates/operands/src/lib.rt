@@ -6,7 +6,7 @@
 ghost use Rattle.std.specs.Prelude.{◌≡◌, [], ◌∷◌, ◌≤◌, length};
 ghost use Rattle.complex_entity.specs.MirrorParts.{names_of};
 ghost use Rattle.instantiables.specs.Told.{told_listed};
-ghost use Rattle.operands.specs.MeaningOperands.{is_row, a-list};
+ghost use Rattle.operands.specs.MeaningOperands.{is_row, a_list};
 ghost use Rattle.operands.specs.MeaningResults.{fitting};
 ghost use Rattle.operands.specs.MirrorOperands.{good_from, judged, counts_of};
 ghost use Rattle.operands.specs.MirrorResults.{Within, Handed};
@@ -46,7 +46,7 @@ pub fn read_operand(operand: Operand, rows: &[u16]) -> Read
 
 // As many rows as there are, a cut one too; of more than 128 the 129th is wrong, whatever comes after it.
 fn read_list(rows: &[u16]) -> Read
-    ensures { result ≡ judged (counts_of a-list rows.now) rows.now }
+    ensures { result ≡ judged (counts_of a_list rows.now) rows.now }
 {
     let numbers = rows.len();
     if numbers > Instantiables::ROOM {

@@ -35,7 +35,7 @@ kind_back meaning.ScopeType.query = refl
 kind_back meaning.ScopeType.repeat = refl
 kind_back meaning.ScopeType.rule = refl
 kind_back meaning.ScopeType.schema = refl
-kind_back meaning.ScopeType.subType = refl
+kind_back meaning.ScopeType.sub_type = refl
 kind_back meaning.ScopeType.type = refl
 
 pub step_back : (q : List ℕ) (x : Step) → Lies q x.name → told_step q (rung_of x) ≡ x

@@ -39,7 +39,7 @@ own_tag meaning.ScopeType.query = refl
 own_tag meaning.ScopeType.repeat = refl
 own_tag meaning.ScopeType.rule = refl
 own_tag meaning.ScopeType.schema = refl
-own_tag meaning.ScopeType.subType = refl
+own_tag meaning.ScopeType.sub_type = refl
 own_tag meaning.ScopeType.type = refl
 
 pub tag_own : (k : meaning.ScopeType) (t : ℕ) → t ≡ tag_for k → Kind (kind_in k) ≡ tagged_of (kind_for t)

@@ -7,7 +7,7 @@ use Rattle.grammar.specs.MeaningReading.{Reading}
 use Rattle.sheet.specs.MeaningName.{Name, is_name}
 use Rattle.sheet.specs.MeaningSheet.{tag_of, end_of, value_of}
 use Rattle.scope.specs.MeaningScope.{ScopeType, tag_for, Step, Scope, most_steps, stop, Path, Comparison, compared}
-use Rattle.scope.specs.MeaningScope.ScopeType.{entity, alias, function, procedure, query, repeat, rule, schema, subType, type}
+use Rattle.scope.specs.MeaningScope.ScopeType.{entity, alias, function, procedure, query, repeat, rule, schema, sub_type, type}
 
 -- ---- one field
 
@@ -16,7 +16,7 @@ unfoldable pub name_at : List ℕ → ℕ → Option Name
 name_at q at = cond (leb (end_of q at) (length q) && is_name (value_of q at)) (some (record { at = at + 3; bytes = value_of q at })) none
 
 abbrev pub scope_types : List ScopeType
-scope_types = entity ∷ alias ∷ function ∷ procedure ∷ query ∷ repeat ∷ rule ∷ schema ∷ subType ∷ type ∷ []
+scope_types = entity ∷ alias ∷ function ∷ procedure ∷ query ∷ repeat ∷ rule ∷ schema ∷ sub_type ∷ type ∷ []
 
 unfoldable pub tagged : List ScopeType → ℕ → Option ScopeType
 tagged [] t = none

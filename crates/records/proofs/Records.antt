@@ -20,7 +20,7 @@ use Rattle.grammar.proofs.Choosing.{clash}
 use Rattle.schemas.specs.MeaningSchemas.{Schema}
 use Rattle.declarations.specs.MirrorNamespace.{schema_scope}
 use Rattle.records.specs.MeaningResolving.{resolved_expr}
-use Rattle.records.specs.MirrorRecords.{size, level, behind, number_meant, own_number, Appends, Stands, Front, Kept, Deep, Room, expr_numbers, recordKept, told_filled}
+use Rattle.records.specs.MirrorRecords.{size, level, behind, number_meant, own_number, Appends, Stands, Front, Kept, Deep, Room, expr_numbers, record_kept, told_filled}
 use Rattle.records.specs.declared.Filled.{Filled}
 use Rattle.records.specs.declared.Filled.TheVariants.{To, Refused}
 use Rattle.records.proofs.Appending.{Did, did, did_not}
@@ -131,14 +131,14 @@ module _ (e : Expr Name) (used : ℕ) (w₀ : List ℕ) (R : Room (size e) (leve
   rec_there w₁ l = omega (arith, before_end)
 
   module _ (rd : Reading) (xs : List Schema) (w : List ℕ) (r : Filled) (w₁ : List ℕ) (A : Appends (expr_numbers rd xs w e) (told_filled r) (used + 1) w₀ w₁) (p : ℕ) where
-    pub rec_handed : (why : Refusal) → r ≡ Refused why → Kept (recordKept rd xs w p e) (told_filled r) used w₀ w₁
-    unfolding told_filled recordKept expr_numbers
+    pub rec_handed : (why : Refusal) → r ≡ Refused why → Kept (record_kept rd xs w p e) (told_filled r) used w₀ w₁
+    unfolding told_filled record_kept expr_numbers
     rec_handed why q =
         let o = unflat_not (resolved_expr (number_meant rd xs) (schema_scope w) e) why.number why.place (did_not A why.number why.place (ap told_filled q)) in
         rw q (kept_refused w₁ R.front.list why.number why.place R.front.stands (rw o refl))
 
-    pub rec_made : (n : ℕ) → r ≡ To n → Kept (recordKept rd xs w p e) (told_filled (To n)) used w₀ (set w₁ used p)
-    unfolding told_filled recordKept expr_numbers
+    pub rec_made : (n : ℕ) → r ≡ To n → Kept (record_kept rd xs w p e) (told_filled (To n)) used w₀ (set w₁ used p)
+    unfolding told_filled record_kept expr_numbers
     rec_made n q = record_put used n p w₀ w₁ R.front before_end (resolved_expr (number_meant rd xs) (schema_scope w) e) (did A n (ap told_filled q))
 
 pub ruleset recording = (rec_deep, rec_there, rec_handed, rec_made)

@@ -180,5 +180,5 @@ module _ (rd : Reading) (xs : List Schema) where
   terms_numbers w t = mapped flats (resolved_terms (number_meant rd xs) (schema_scope w) t)
 
   -- a record of this owner with the expression
-  unfoldable pub recordKept : List ℕ → ℕ → Expr Name → List (Combined ℕ) → Answer (List (Combined ℕ))
-  recordKept w p e cs = resolved_expr (number_meant rd xs) (schema_scope w) e >>= λ d. done (behind cs p d)
+  unfoldable pub record_kept : List ℕ → ℕ → Expr Name → List (Combined ℕ) → Answer (List (Combined ℕ))
+  record_kept w p e cs = resolved_expr (number_meant rd xs) (schema_scope w) e >>= λ d. done (behind cs p d)

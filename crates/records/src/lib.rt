@@ -9,7 +9,7 @@ ghost use Rattle.declarations.specs.MeaningNamespace.{schemas_in};
 ghost use Rattle.declarations.specs.MirrorNamespace.{schema_scope, LastSchemaOf};
 ghost use Rattle.declarations.specs.Told.{told_found};
 ghost use Rattle.records.specs.MeaningResolving.{rule_of};
-ghost use Rattle.records.specs.MirrorRecords.{size, sizes, level, levels, number_meant, own_number, Meets, word_at, expr_in, SpellsExpr, gives_rule, told_filled, Appends, Kept, Within, Deep, Room, schema_named, expr_numbers, terms_numbers, recordKept};
+ghost use Rattle.records.specs.MirrorRecords.{size, sizes, level, levels, number_meant, own_number, Meets, word_at, expr_in, SpellsExpr, gives_rule, told_filled, Appends, Kept, Within, Deep, Room, schema_named, expr_numbers, terms_numbers, record_kept};
 
 use declarations::{Found, LastSchema};
 use expression::{NODE, REFERENCE, put_node};
@@ -223,7 +223,7 @@ pub fn put_record(
     requires within { Within sheet.now start stop × (0x50 ≤ tag) × (tag ≤ 0x53) }
     requires room { Room (size (expr_in sheet.now tag start stop)) (level (expr_in sheet.now tag start stop)) used stream.old }
     requires last_schema_of { LastSchemaOf (told_reading reading) sheet.now scope.now last }
-    ensures { Kept (recordKept (told_reading reading) (schemas_in sheet.now) scope.now owner (expr_in sheet.now tag start stop)) (told_filled result) used stream.old stream.new }
+    ensures { Kept (record_kept (told_reading reading) (schemas_in sheet.now) scope.now owner (expr_in sheet.now tag start stop)) (told_filled result) used stream.old stream.new }
 {
     let body = used + 1;
     let answer = read_node(

@@ -15,7 +15,7 @@ use Rattle.sheet.specs.declared.Header.TheVariants.{Passes}
 use Rattle.forest.specs.MeaningForest.{Forest, encode, Right}
 use Rattle.forest.specs.MeaningForest.Forest.{nil as no_fields, leaf as plain, node as nested}
 use Rattle.forest.specs.MeaningPlaces.{nests}
-use Rattle.forest.proofs.Laying.{part, length_part, Read, read, Laid as Header-laid, laid as header-laid}
+use Rattle.forest.proofs.Laying.{part, length_part, Read, read, Laid as HeaderLaid, laid as header-laid}
 use Rattle.forest.proofs.Proved.{sound_plain}
 use Rattle.schemas.specs.MeaningTree.{Tree, tree_at}
 use Rattle.schemas.specs.MeaningTree.Tree.{nil, leaf, node}
@@ -39,7 +39,7 @@ module _ (s : List ℕ) where
   no_bytes at e l k h = omega (arith, ap length h, length_part s at e l)
 
   header : (at e t : ℕ) (v rest : List ℕ) → Read s at e t v rest → (tag_of s at ≡ t) × (end_of s at ≡ at + 3 + length v)
-  header at e t v rest r = let h = subst (Header-laid s at e) r.there (header-laid s at e) in (h.0, h.2)
+  header at e t v rest r = let h = subst (HeaderLaid s at e) r.there (header-laid s at e) in (h.0, h.2)
 
   value : (at e t : ℕ) (v rest : List ℕ) → Read s at e t v rest → take (length v) (drop (at + 3) s) ≡ v
   value at e t v rest r = let k : at + 3 + length v - (at + 3) ≡ length v = omega arith in rw k at r.body

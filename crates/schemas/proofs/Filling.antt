@@ -8,7 +8,7 @@ use borrow.Author.Tests.{eqb-true}
 use lib.Dec.{eqb}
 use Rattle.grammar.proofs.Sequences.{in_left, in_right}
 use Rattle.grammar.specs.MeaningGrammar.{one_of, Slot, needed, again, Fills}
-use Rattle.grammar.specs.MeaningGrammar.Often.{one, atMostOne, any}
+use Rattle.grammar.specs.MeaningGrammar.Often.{one, at_most_one, any}
 use Rattle.grammar.specs.MeaningGrammar.Fills.{done, skip, last, more}
 use Rattle.grammar.proofs.Choosing.{clash, opposed}
 
@@ -49,11 +49,11 @@ module _ {x : Slot} {xs : List Slot} where
   one_first q (more a k f) = clash (let z : again one ≡ true = rw q at a in cc)
 
   -- "at most one": it stands there, or there is none
-  pub some_first : {u : ℕ} {us : List ℕ} → x.often ≡ atMostOne → Fills (x ∷ xs) (u ∷ us) → ((one_of x.tags u ≡ true) × Fills xs us) ⊎ Fills xs (u ∷ us)
+  pub some_first : {u : ℕ} {us : List ℕ} → x.often ≡ at_most_one → Fills (x ∷ xs) (u ∷ us) → ((one_of x.tags u ≡ true) × Fills xs us) ⊎ Fills xs (u ∷ us)
   unfolding again
   some_first q (skip n f) = inr f
   some_first q (last k f) = inl (k, f)
-  some_first q (more a k f) = clash (let z : again atMostOne ≡ true = rw q at a in cc)
+  some_first q (more a k f) = clash (let z : again at_most_one ≡ true = rw q at a in cc)
 
   -- "any": one stands there, and more may follow; or there is none
   pub any_first : {u : ℕ} {us : List ℕ} → x.often ≡ any → Fills (x ∷ xs) (u ∷ us) → ((one_of x.tags u ≡ true) × Fills (x ∷ xs) us) ⊎ Fills xs (u ∷ us)

@@ -13,7 +13,7 @@ use Rattle.schemas.specs.MeaningTree.{Tree, tree_of}
 use Rattle.schemas.specs.MeaningSchemas.{schemas_of}
 use Rattle.schemas.specs.MeaningBack.{forest_of_schemas}
 use Rattle.schemas.specs.MeaningLayout.{Row, SchemaStands}
-use Rattle.schemas.specs.Claims.{FaultsAndForests, AcceptsForests, ReadsBack, HasItsForest, EncodesOnce, BareTree, ThereAndBack, BackAndThere, NothingLost, Laid_out, WholeFields, CamRead, FieldByField}
+use Rattle.schemas.specs.Claims.{FaultsAndForests, AcceptsForests, ReadsBack, HasItsForest, EncodesOnce, BareTree, ThereAndBack, BackAndThere, NothingLost, LaidOut, WholeFields, CamRead, FieldByField}
 use Rattle.schemas.proofs.Trees.{same_forest, tree_eq}
 use Rattle.schemas.proofs.Returning.{whole_back}
 use Rattle.schemas.proofs.Again.{whole_again}
@@ -58,7 +58,7 @@ nothing_lost rd s b i =
 
 -- ---- places
 
-pub laid_out : Laid_out
+pub laid_out : LaidOut
 unfolding tree_of
 laid_out rd s b i =
     let xs = schemas_of (tree_of s) in

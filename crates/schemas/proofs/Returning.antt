@@ -12,7 +12,7 @@ use lib.ListN.{length, get_or}
 use Rattle.grammar.specs.MeaningReading.{Reading}
 use Rattle.sheet.specs.MeaningName.{Name}
 use Rattle.grammar.specs.MeaningGrammar.{one_of, expressions, Often, Slot, slot, line, grammar, slots_in, slots_of, needed, again, Fills, kind_of, holds_simple}
-use Rattle.grammar.specs.MeaningGrammar.Often.{one, atMostOne, any}
+use Rattle.grammar.specs.MeaningGrammar.Often.{one, at_most_one, any}
 use Rattle.grammar.specs.MeaningGrammar.Fills.{skip}
 use Rattle.grammar.specs.MeaningGrammar.Kind.{fields}
 use Rattle.grammar.proofs.Choosing.{clash, opposed, both}
@@ -38,10 +38,10 @@ abbrev bodies : Slot
 bodies = record { tags = 0x21 ∷ 0x22 ∷ 0x23 ∷ 0x24 ∷ []; often = one }
 
 abbrev marks : Slot
-marks = record { tags = 0x31 ∷ 0x32 ∷ 0x33 ∷ []; often = atMostOne }
+marks = record { tags = 0x31 ∷ 0x32 ∷ 0x33 ∷ []; often = at_most_one }
 
 abbrev supers : Slot
-supers = record { tags = 0x34 ∷ []; often = atMostOne }
+supers = record { tags = 0x34 ∷ []; often = at_most_one }
 
 abbrev many : ℕ → Slot
 many u = record { tags = u ∷ []; often = any }
@@ -185,7 +185,7 @@ module _ (rd : Reading) where
           choose (MarkedBy a g f) (0x31 ∷ 0x32 ∷ 0x33 ∷ []) u x.0
           (λ q G S. rule_back (expr_of g) (bare g) _ (expr_back_law 0x31 one refl g G S) (λ n. one_none refl (rw n at G)) ∙ ap (λ (w : Forest). nested 0x31 (bare g) w) y)
           (λ q G S. clash (cc))
-          (λ q G S. ap₂ (λ (w z : Forest). nested 0x33 w z) (expr_back_law 0x33 atMostOne refl g G S) y)
+          (λ q G S. ap₂ (λ (w z : Forest). nested 0x33 w z) (expr_back_law 0x33 at_most_one refl g G S) y)
           R.1 R.2 R.3
       go (inr G) =
           let x = few_only refl G in
@@ -199,7 +199,7 @@ module _ (rd : Reading) where
   -- ---- 40 subtype constraint
   constraint_back_law : (p : ℕ) (g : Tree) → Fills (slots_of 0x40) (tags_in (bare g)) → Right rd 0x40 (bare g) → constraint_back (constraint_of p g) ≡ bare g
   unfolding constraint_of constraint_back name_of expr_of terms_of name_at name_then slots_in grammar line slot expressions again
-  constraint_back_law p g F R = begins 0x40 (exprs atMostOne ∷ []) (λ g. constraint_back (constraint_of p g) ≡ bare g) (λ a v f G S. ap (λ (y : Forest). plain 0x10 v y) (expr_back_law 0x40 atMostOne refl f G S)) g F R
+  constraint_back_law p g F R = begins 0x40 (exprs at_most_one ∷ []) (λ g. constraint_back (constraint_of p g) ≡ bare g) (λ a v f G S. ap (λ (y : Forest). plain 0x10 v y) (expr_back_law 0x40 at_most_one refl f G S)) g F R
 
   -- ---- 01 schema
   none_of : {A : Type 0} (u : ℕ) (read : ℕ → Tree → A) (ts : List ℕ) → one_of ts u ≡ false → (f : Tree) → All ts (tags_in (bare f)) → each u read f ≡ []

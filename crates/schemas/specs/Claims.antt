@@ -61,8 +61,8 @@ NothingLost = (rd : Reading) (s : List ℕ) → AllBytes s → Is rd s (done tt)
 -- ---- places
 
 -- the schemas of a sheet without a fault stand in it from its first byte to its end, so the places of names and declarations are the offsets of their bytes
-abbrev pub Laid_out : Type 0
-Laid_out = (rd : Reading) (s : List ℕ) → AllBytes s → Is rd s (done tt) → Row (SchemaStands s) (schemas_of (tree_of s)) 0 (length s)
+abbrev pub LaidOut : Type 0
+LaidOut = (rd : Reading) (s : List ℕ) → AllBytes s → Is rd s (done tt) → Row (SchemaStands s) (schemas_of (tree_of s)) 0 (length s)
 
 -- and every field of its tree stands whole at its place
 abbrev pub WholeFields : Type 0

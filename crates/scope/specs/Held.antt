@@ -17,7 +17,7 @@ kind_in meaning.ScopeType.query = Query
 kind_in meaning.ScopeType.repeat = Repeat
 kind_in meaning.ScopeType.rule = Rule
 kind_in meaning.ScopeType.schema = Schema
-kind_in meaning.ScopeType.subType = SubType
+kind_in meaning.ScopeType.sub_type = SubType
 kind_in meaning.ScopeType.type = «Type»
 
 unfoldable pub rung_of : Step → Rung

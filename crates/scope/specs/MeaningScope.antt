@@ -6,7 +6,7 @@ use Rattle.scope.specs.MeaningNames.{same_name}
 
 -- in the order of the Rust's declaration
 pub data ScopeType : Type 0 where
-  entity alias function procedure query repeat rule schema subType type : ScopeType
+  entity alias function procedure query repeat rule schema sub_type type : ScopeType
 
 -- "the ScopeType's place in its declaration"
 abbrev pub place_of : ScopeType → ℕ
@@ -18,7 +18,7 @@ place_of query = 4
 place_of repeat = 5
 place_of rule = 6
 place_of schema = 7
-place_of subType = 8
+place_of sub_type = 8
 place_of type = 9
 
 -- "tag 60 plus the ScopeType's place in its declaration (Entity 60, Schema 67, Type 69)"

@@ -21,7 +21,7 @@ told_kind Query = meaning.ScopeType.query
 told_kind Repeat = meaning.ScopeType.repeat
 told_kind Rule = meaning.ScopeType.rule
 told_kind Schema = meaning.ScopeType.schema
-told_kind SubType = meaning.ScopeType.subType
+told_kind SubType = meaning.ScopeType.sub_type
 told_kind «Type» = meaning.ScopeType.type
 
 -- the left scope against the right one; or why they are not compared

@@ -30,7 +30,7 @@ returns-8 : tie.Need-returns-8
 returns-8 c = tag_own meaning.ScopeType.schema _ c.match.keys8
 
 returns-9 : tie.Need-returns-9
-returns-9 c = tag_own meaning.ScopeType.subType _ c.match.keys9
+returns-9 c = tag_own meaning.ScopeType.sub_type _ c.match.keys9
 
 returns-10 : tie.Need-returns-10
 returns-10 c = tag_own meaning.ScopeType.type _ c.match.keys10
