@@ -9,7 +9,7 @@ use lib.ListN.{length, get_or, take, drop, set, replicate, length-take, length-d
 use lib.Seq.{get_or-take, get_or-drop, get_or-append-add, take-take, take_at, paste, paste-suc, take-set-le, drop-set-lt, set_split, append_snoc}
 use mir.Syntax.{w16}
 use mir.Val.{Fits}
-use borrow.Author.Rules.{FitsUnder}
+use borrow.Author.Rules.{Fits-under}
 use Rattle.refusal.specs.MeaningAnswer.{Answer, done, refused, or_else}
 use Rattle.complex_entity.specs.declared.PartialComplexEntity.{PartialComplexEntity}
 use Rattle.complex_entity.specs.declared.Made.{Made}
@@ -95,7 +95,7 @@ pub record Writing (d : List ℕ) (at : ℕ) (p : PartialComplexEntity) (n i : �
   pub long : length rows ≡ length d
 
 pub write_count : (p : PartialComplexEntity) (n : ℕ) → n ≡ length (names_of p) → length p.names ≡ 12 → Fits w16 n
-write_count p n e l = FitsUnder w16 n 13 (omega (arith, names_few p l)) tt
+write_count p n e l = Fits-under w16 n 13 (omega (arith, names_few p l)) tt
 
 pub write_start : (d : List ℕ) (at : ℕ) (p : PartialComplexEntity) (n : ℕ) → at + 13 ≤ length d → length p.names ≡ 12 → n ≡ length (names_of p)
     → Writing (set d at n) at p n 0 (set d at n)

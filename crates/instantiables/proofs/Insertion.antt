@@ -8,7 +8,7 @@ use lib.ListN.{length, take, drop, length-append, length-drop}
 use lib.Seq.{paste, take-add, drop_at, take_all, take-take, take-append-le, length-take-le}
 use mir.Syntax.{w64}
 use mir.Val.{Fits}
-use borrow.Author.Rules.{FitsUnder}
+use borrow.Author.Rules.{Fits-under}
 use Rattle.refusal.specs.MeaningAnswer.{done}
 use Rattle.complex_entity.specs.MeaningSets.{sort_in, put}
 use Rattle.complex_entity.specs.MeaningRising.{here, there}
@@ -145,7 +145,7 @@ module _ (rows : List ℕ) (count : ℕ) (x : PartialComplexEntity) (s : Spot) (
         ap length more_is ∙ length-append (take i K) (names_of x ∷ drop i K) ∙ omega (arith, inside)
 
     pub insert_mul : Fits w64 (13 * i)
-    insert_mul = FitsUnder w64 (13 * i) 2000 (omega (arith, inside, h.small)) tt
+    insert_mul = Fits-under w64 (13 * i) 2000 (omega (arith, inside, h.small)) tt
 
     pub insert_full : 128 ≤ count → (r : Listed) → r ≡ Refused (record { number = 11; place = 0 })
         → Listing (held (add (parts_at count rows) (names_of x ∷ []))) rows rows (told_listed r)
@@ -160,7 +160,7 @@ module _ (rows : List ℕ) (count : ℕ) (x : PartialComplexEntity) (s : Spot) (
       insert_end = omega (arith, inside, h.room)
 
       pub insert_add : Fits w64 (13 * i + 13)
-      insert_add = FitsUnder w64 (13 * i + 13) 2000 (omega (arith, inside)) tt
+      insert_add = Fits-under w64 (13 * i + 13) 2000 (omega (arith, inside)) tt
 
       pub insert_inside : (rows₁ : List ℕ) → length rows₁ ≡ length rows → 13 * i + 13 ≤ length rows₁
       insert_inside rows₁ l = omega (arith, inside, h.room)

@@ -8,7 +8,7 @@ use lib.ListN.{length, take, drop, length-append, length-drop, take-append-drop,
 use lib.Seq.{drop-cons, drop-drop, drop-append-le, take_all}
 use mir.Syntax.{w64}
 use mir.Val.{Fits}
-use borrow.Author.Rules.{FitsUnder}
+use borrow.Author.Rules.{Fits-under}
 use Rattle.complex_entity.specs.MeaningParts.{Part}
 use Rattle.complex_entity.specs.MeaningRows.{row_of, flat}
 use Rattle.complex_entity.specs.MirrorParts.{part_at}
@@ -91,13 +91,13 @@ module _ (rd : Reading) (s names work : List ℕ) (p : Parts) (A : AtCursor rd s
 
     -- where the row begins fits a place, and so does its place in bytes
     pub part_fits : Fits w64 (13 * p.number)
-    part_fits = FitsUnder w64 (13 * p.number) 65536 (omega (arith, parts_left.rows.small)) tt
+    part_fits = Fits-under w64 (13 * p.number) 65536 (omega (arith, parts_left.rows.small)) tt
 
     pub part_place : Fits w64 (2048 + 13 * p.number)
-    part_place = FitsUnder w64 (2048 + 13 * p.number) 65536 (omega (arith, parts_left.rows.small)) tt
+    part_place = Fits-under w64 (2048 + 13 * p.number) 65536 (omega (arith, parts_left.rows.small)) tt
 
     pub part_bytes : Fits w64 ((2048 + 13 * p.number) * 2)
-    part_bytes = FitsUnder w64 ((2048 + 13 * p.number) * 2) 65536 (omega (arith, parts_left.rows.small)) tt
+    part_bytes = Fits-under w64 ((2048 + 13 * p.number) * 2) 65536 (omega (arith, parts_left.rows.small)) tt
 
     pub part_row : RowStands (row_from work p)
     part_row = rw (whole_row work p, ← drop-drop (13 * p.number) 2048 work) (row_stands (drop 2048 work) p.count parts_left.rows p.number h)

@@ -9,7 +9,7 @@ use native.Mathlib.Numerals.{add-one}
 use native.Mathlib.Omega.{arith}
 use mir.Syntax.{w64}
 use mir.Val.{Fits}
-use borrow.Author.Rules.{FitsUnder}
+use borrow.Author.Rules.{Fits-under}
 use lib.ListN.{length, drop, get_elem?}
 use lib.Seq.{drop-drop}
 use Rattle.refusal.specs.MeaningAnswer.{Answer}
@@ -109,7 +109,7 @@ module _ (s names : List ℕ) (n : ℕ) (o : Sought) (t : o ≡ type_from (schem
     type_small h = omega (arith, nth_below (declarations xs) m found.it there, few s)
 
     pub type_fits : length s ≤ 65535 → Fits w64 (m + 1)
-    type_fits h = FitsUnder w64 (m + 1) 65536 (omega (arith, type_small h)) tt
+    type_fits h = Fits-under w64 (m + 1) 65536 (omega (arith, type_small h)) tt
 
     pub type_less : length s ≤ 65535 → (stop : ℕ) → Falls (on.Types n) (record { stop = stop; next = on.Types (m + 1) })
     unfolding left

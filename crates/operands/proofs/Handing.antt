@@ -8,7 +8,7 @@ use lib.ListN.{length, take, drop}
 use lib.Seq.{paste, take_all}
 use lib.Dec.{leb}
 use borrow.Author.Tests.{le-leb, lt-leb}
-use borrow.Author.Rules.{FitsUnder}
+use borrow.Author.Rules.{Fits-under}
 use mir.Syntax.{w64}
 use mir.Val.{Fits}
 use Rattle.refusal.specs.MeaningAnswer.{Answer, done, refused, or_else, mapped, ◌>>=◌}
@@ -43,7 +43,7 @@ module _ (listed : Listed) (work out : List ℕ) where
     hand_within h = rw e at h
 
     pub hand_fits : Within (told_listed listed) work → length work * 2 < 2 ^ 63 → Fits w64 (13 * l.count)
-    hand_fits h k = FitsUnder w64 (13 * l.count) (2 ^ 63) (omega (arith, hand_within h)) tt
+    hand_fits h k = Fits-under w64 (13 * l.count) (2 ^ 63) (omega (arith, hand_within h)) tt
 
     pub hand_short : (w : Refusal) → w ≡ record { number = 12; place = 0 } → length out < 13 * l.count → Handed (told_listed listed) work out (told_listed (Refused w)) out
     unfolding fitted handed

@@ -9,7 +9,7 @@ use lib.ListN.{length, take, drop, set, length-set, length-append, take-append-d
 use lib.Seq.{take-suc-set, append_snoc}
 use mir.Syntax.{w64}
 use mir.Val.{Fits}
-use borrow.Author.Rules.{FitsUnder}
+use borrow.Author.Rules.{Fits-under}
 use Rattle.complex_entity.specs.MeaningParts.{Part, order}
 use Rattle.complex_entity.specs.MeaningLists.{add}
 use Rattle.complex_entity.specs.MirrorParts.{by, part_at}
@@ -122,7 +122,7 @@ module _ (rows others steps : List ℕ) (count other left right total k r : ℕ)
 
     pub count_add : Fits w64 (k + 1)
     unfolding n m
-    count_add = FitsUnder w64 (k + 1) 2000 (omega (arith, some_left, f.few)) tt
+    count_add = Fits-under w64 (k + 1) 2000 (omega (arith, some_left, f.few)) tt
 
     turn : (J : List Part) (p : Part) → united rows others count other f.n f.m ≡ J ++ p ∷ [] → length (united rows others count other f.n f.m) ≡ length J + 1
     turn J p e = ap length e ∙ length-append J (p ∷ [])

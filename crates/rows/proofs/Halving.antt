@@ -7,7 +7,7 @@ use native.Mathlib.Numerals.{add-one}
 use native.Mathlib.Nat.{zero-add, add-zero}
 use mir.Syntax.{w64}
 use mir.Val.{Fits}
-use borrow.Author.Rules.{FitsUnder}
+use borrow.Author.Rules.{Fits-under}
 use lib.ListN.{length, get_or, take, drop, take-append-drop}
 use lib.Seq.{slice, slice-cons, slice_empty, length-slice, take-length, drop-append-le, take-take, length-take-le}
 use Rattle.complex_entity.specs.MeaningRising.{here, Lt, View, less, same, more, Rising, empty, next}
@@ -158,7 +158,7 @@ module _ (rows : List ℕ) (count : ℕ) (p : Part) (lo hi : ℕ) (r : Spot) (f 
     left_length = let n = length-slice lo mid (parts_at count rows) (rw (parts_length count rows) (omega (arith, f.high))) in omega (arith, n)
 
     pub place_mul : Fits w64 (13 * (lo + (hi - lo) / 2))
-    place_mul = FitsUnder w64 (13 * (lo + (hi - lo) / 2)) 2000 (omega (arith, f.high, f.stands.small)) tt
+    place_mul = Fits-under w64 (13 * (lo + (hi - lo) / 2)) 2000 (omega (arith, f.high, f.stands.small)) tt
 
     pub place_inside : 13 * (lo + (hi - lo) / 2) + 13 ≤ length rows
     place_inside = omega (arith, f.high, f.stands.small, f.stands.room)
@@ -226,7 +226,7 @@ module _ (rows : List ℕ) (count : ℕ) (p : Part) (h : 0 < count) (s : Stands 
   last_length = length-take-le (count - 1) (parts_at count rows) (omega (arith, parts_length count rows))
 
   pub last_mul : Fits w64 (13 * (count - 1))
-  last_mul = FitsUnder w64 (13 * (count - 1)) 2000 (omega (arith, s.small)) tt
+  last_mul = Fits-under w64 (13 * (count - 1)) 2000 (omega (arith, s.small)) tt
 
   pub last_inside : 13 * (count - 1) + 13 ≤ length rows
   last_inside = omega (arith, s.small, s.room)

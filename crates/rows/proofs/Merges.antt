@@ -9,7 +9,7 @@ use lib.ListN.{length, get_or, take, drop, length-append, length-take, take-appe
 use lib.Seq.{paste, length-paste, take_at, drop_at, drop-cons, take-take, take-append-le, length-take-le, append_snoc}
 use mir.Syntax.{w64}
 use mir.Val.{Fits}
-use borrow.Author.Rules.{FitsUnder}
+use borrow.Author.Rules.{Fits-under}
 use Rattle.complex_entity.specs.MeaningParts.{Part, order}
 use Rattle.complex_entity.specs.MeaningLists.{add}
 use Rattle.complex_entity.specs.MeaningRows.{row_of, flat}
@@ -288,7 +288,7 @@ module _ (rows₀ others steps rows : List ℕ) (count other total left right to
       merge_step = omega (arith, some_left, f.few, f.size)
 
       pub merge_add : Fits w64 (k + 1)
-      merge_add = FitsUnder w64 (k + 1) 2000 (omega (arith, some_left, f.few)) tt
+      merge_add = Fits-under w64 (k + 1) 2000 (omega (arith, some_left, f.few)) tt
 
       -- what the next step says, and the steps after it
       next_told : (told_step (get_or steps k 0) ≡ order (part_at (drop (13 * (f.n - 1)) rows₀)) (part_at (drop (13 * (f.m - 1)) others)))
