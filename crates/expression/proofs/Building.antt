@@ -144,14 +144,17 @@ mutual
   complete (oneof t) {L} h (by_oneof b) = let r = bind_done (values t) h in rw (oneof_list r.0 L r.2) (oneof_new r.0 (complete_one t r.1 b))
 
   complete_one : (t : Terms ℕ) {Ls : List (List Part)} {q : Part} → values t ≡ done Ls → BuildsOne t q → One Ls q
+  complete_one end {Ls = Ls} {q = q} h x8 = elim x8 [ ]
   complete_one (e then t) {Ls} h (this b) = let r = first_and_rest e t h in rw r.4 (sets.this (complete e r.2 b))
   complete_one (e then t) {Ls} h (later b) = let r = first_and_rest e t h in rw r.4 (sets.later (complete_one t r.3 b))
 
   complete_every : (t : Terms ℕ) {Ls : List (List Part)} {q : Part} → values t ≡ done Ls → BuildsEvery t q → Every Ls q
+  complete_every end {Ls = Ls} {q = q} h x8 = elim x8 [ ]
   complete_every (e then t) {Ls} h (last b) = let r = first_and_rest e t h in rw (r.4 ∙ ap (λ Ks. r.0 ∷ Ks) (nothing r.3)) (sets.last (complete e r.2 b))
   complete_every (e then t) {Ls} h (with_rest b c j) = let r = first_and_rest e t h in rw r.4 (sets.with_rest (complete e r.2 b) (complete_every t r.3 c) (joins_is j))
 
   complete_some : (t : Terms ℕ) {Ls : List (List Part)} {q : Part} → values t ≡ done Ls → BuildsSome t q → Some Ls q
+  complete_some end {Ls = Ls} {q = q} h x8 = elim x8 [ ]
   complete_some (e then t) {Ls} h (only b) = let r = first_and_rest e t h in rw r.4 (sets.only (complete e r.2 b))
   complete_some (e then t) {Ls} h (without b) = let r = first_and_rest e t h in rw r.4 (sets.without (complete_some t r.3 b))
   complete_some (e then t) {Ls} h (with_it b c j) = let r = first_and_rest e t h in rw r.4 (sets.with_it (complete e r.2 b) (complete_some t r.3 c) (joins_is j))

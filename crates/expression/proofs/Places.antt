@@ -28,7 +28,7 @@ at_below [] i q e = let z : ◌≡◌ {A = ℕ} 0 1 = cc in absurd (omega arith)
 at_below (a ∷ L) zero q e = omega arith
 at_below (a ∷ L) (suc i) q e = suc-le-suc (at_below L i q e)
 
-mem_at : {L : List Part} {q : Part} → q ∈ L → (i : ℕ) × (get_elem? L i ≡ some q)
+mem_at : {q : Part} {L : List Part} → q ∈ L → (i : ℕ) × (get_elem? L i ≡ some q)
 mem_at (here e) = (0, cc)
 mem_at (there m) = let r = mem_at m in (suc r.0, r.1)
 
