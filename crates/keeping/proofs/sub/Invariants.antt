@@ -1,0 +1,11 @@
+-- `sub` meets its contract. The invariant: what is kept stands in front, and with what is kept of the rows that are left it is the whole answer.
+use Rattle.rows.specs.MirrorRows.{parts_at}
+use Rattle.complex_entity.specs.MeaningLists.{sub}
+use Rattle.keeping.proofs.Keeping.{Keeping, left_out}
+use Rattle.keeping.proofs.sub.Given as goal
+
+abbrev pub invariant-loop-left : goal.invariant-loop-left
+invariant-loop-left l = Keeping (left_out (parts_at l.other.count l.others)) l.initial.rows l.rows l.kept l.to l.at l.left (sub (parts_at l.initial.left l.initial.rows) (parts_at l.other.count l.others))
+
+abbrev pub decreases-loop-left : goal.decreases-loop-left
+decreases-loop-left l = l.left
