@@ -1,8 +1,8 @@
 /*
  * Dinkolafe: which records may share a frame header.
  *
- * Every function is proved to keep the promise that docs/PROMISES.md names for it. `rt staticlib exports` writes the
- * archive, target/staticlib/libexports.a, for x86-64; nothing else is linked but the C library (memset, memcpy).
+ * Every function is proved to keep the promise that docs/PROMISES.md names for it. `rt lib` in crates/exports writes the
+ * archive, out/libexports.a there, for x86-64; nothing else is linked but the C library (memset, memcpy).
  *
  * ---- Answers
  *
