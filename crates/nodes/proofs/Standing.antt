@@ -6,7 +6,7 @@ use native.Mathlib.Omega.{arith}
 use lib.ListN.{length, take, drop, set, get_or, length-set, length-append, length-drop, drop_of_length-le}
 use lib.Seq.{take_at, length-take-le, take_all, take-add, take-take, take-set-le, drop-cons, drop-append_seam, drop-drop}
 use Rattle.expression.specs.MeaningExpression.{Expr, reference, Terms, end, ◌then◌}
-use Rattle.expression.specs.MirrorNodes.{node, flat, flats, height, heights}
+use Rattle.expression.specs.MirrorNodes.{flat, flats, height, heights}
 use Rattle.expression.proofs.Spans.{patched}
 use Rattle.nodes.specs.MeaningBytes.{field_of, bytes_of, bytes_of_all}
 use Rattle.nodes.specs.MirrorBuilding.{Ends, Sort, an_expression, some_terms, Behind, Reads}
