@@ -10,7 +10,7 @@ use lib.ListN.{length, take, drop, get_or, length-append, length-drop}
 use lib.Seq.{take_at, take_all, drop-drop, get_or-drop, length-take-le}
 use borrow.Author.Tests.{eq-eqb, ne_eqb}
 use borrow.Rule.Slice.PartMut.{put_mid, post_of}
-use Rattle.expression.specs.MeaningExpression.{Expr, reference, andor, «and», oneof, Terms, end, ◌then◌, append, is_in_some, factors}
+use Rattle.expression.specs.MeaningExpression.{Expr, reference, andor, «and», oneof, Terms, end, append, is_in_some, factors}
 use Rattle.expression.specs.MirrorNodes.{flat, flats}
 use Rattle.expression.proofs.Spans.{flat_long, flats_append}
 use Rattle.merging.specs.MeaningMerging.{Combined, Pair, references}
