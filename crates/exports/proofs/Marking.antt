@@ -14,7 +14,7 @@ use Rattle.operands.specs.MeaningOperands.{rows_in, first_wrong, wanted, unless_
 use Rattle.algebra.specs.MeaningQuestions as rows
 use Rattle.operands.specs.MeaningResults.{fitting, one}
 use Rattle.algebra.specs.MeaningQuestions.{ask_new, ask_single, ask_compare, ask_two, ask_several}
-use Rattle.operators.specs.MeaningOperators.{Operator, plus, times, minus, over, value_of, Several, one_of_lem, every_of, some_of, value_of_all}
+use Rattle.operators.specs.MeaningOperators.{Operator, plus, times, minus, over, value_of, Several, one_of, every_of, some_of, value_of_all}
 use Rattle.grammar.specs.MeaningReading.{Reading}
 use Rattle.sheet.specs.MeaningSheet.{Open, Stood, Wrong, Fault, Is}
 use Rattle.sheet.specs.MeaningSheet.Wrong.{passes, bad_tag, bad_simple, full, missing, bad_name, limit, depth, forbidden}
@@ -142,7 +142,7 @@ oneof_marked Ls = held_marked (oneof Ls)
 
 all_marked : (op : Several) (Ls : List (List Part)) → Marked (value_of_all op Ls)
 unfolding value_of_all
-all_marked one_of_lem Ls = oneof_marked Ls
+all_marked one_of Ls = oneof_marked Ls
 all_marked every_of Ls = and_marked Ls
 all_marked some_of Ls = andor_marked Ls
 

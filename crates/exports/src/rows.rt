@@ -1,6 +1,6 @@
 // The questions on rows.
 ghost use Rattle.instantiables.specs.Told.{told_listed};
-ghost use Rattle.operators.specs.MeaningOperators.{plus, times, minus, over, one_of_lem, every_of, some_of};
+ghost use Rattle.operators.specs.MeaningOperators.{plus, times, minus, over, one_of, every_of, some_of};
 ghost use Rattle.operands.specs.MeaningOperands.{a_list, a_part};
 ghost use Rattle.algebra.specs.Promises.{PromiseNew, PromiseSingle, PromiseCompare, PromiseTwo, PromiseSeveral};
 ghost use Rattle.codes.specs.Told.{compared_parts};
@@ -187,7 +187,7 @@ pub extern "C" fn dinkolafe_oneof(
     out: &mut [u16],
     value: &mut u64,
 ) -> u8
-    ensures { Exported told_listed (λ a. PromiseSeveral one_of_lem counts.now rows.now out.old a out.new) result value.new }
+    ensures { Exported told_listed (λ a. PromiseSeveral one_of counts.now rows.now out.old a out.new) result value.new }
 {
     let code = of_listed(algebra::oneof(counts, rows, out));
     *value = code.value;
