@@ -6,7 +6,7 @@
 ghost use Rattle.std.specs.Prelude.{◌≡◌};
 ghost use Rattle.operands.specs.MeaningOperands.{a_list, a_part};
 ghost use Rattle.operands.specs.Told.{told_operand};
-ghost use Rattle.operators.specs.MeaningOperators.{plus, times, minus, over, one_of_lem, every_of, some_of};
+ghost use Rattle.operators.specs.MeaningOperators.{plus, times, minus, over, one_of, every_of, some_of};
 ghost use Rattle.operators.specs.Told.{told_operator, told_several};
 ghost use Rattle.algebra.specs.MirrorOrder.{judged_both};
 ghost use Rattle.algebra.specs.Promises.{PromiseNew, PromiseSingle, PromiseCompare, PromiseTwo, PromiseSeveral};
@@ -207,7 +207,7 @@ pub fn div_part(left: &[u16], right: &[u16], out: &mut [u16]) -> Listed
 // ---- several lists: their rows one after another, and how many rows each has
 
 pub fn oneof(counts: &[u16], rows: &[u16], out: &mut [u16]) -> Listed
-    ensures { PromiseSeveral one_of_lem counts.now rows.now out.old result out.new }
+    ensures { PromiseSeveral one_of counts.now rows.now out.old result out.new }
 {
     ask_several(Several::Oneof, counts, rows, out)
 }
