@@ -86,28 +86,33 @@ same_number xs d e i j k =
 
 pub in_entry : (n : ℕ) (xs : List Schema) (e : Entry) (d : Declaration) → e ∈ entries_from n xs → d ∈ e.items → d ∈ all_of (entries_from n xs)
 unfolding all_of entries_from
+in_entry n [] e d x'' m = elim x'' [ ]
 in_entry n (x ∷ xs) e d (here q) m = ∈_append_left (numbered x n (declared_by x)) (all_of (entries_from (n + length (declared_by x)) xs)) (rw q at m)
 in_entry n (x ∷ xs) e d (there q) m = ∈_append_right (numbered x n (declared_by x)) (all_of (entries_from (n + length (declared_by x)) xs)) (in_entry (n + length (declared_by x)) xs e d q m)
 
 numbered_scope : (x : Schema) (n : ℕ) (ds : List Named) (d : Declaration) → d ∈ numbered x n ds → d.path.scope ≡ scope_in x
 unfolding numbered path_in
+numbered_scope x n [] d x'' = elim x'' [ ]
 numbered_scope x n (y ∷ ds) d (here q) = ap (λ (z : Declaration). z.path.scope) q
 numbered_scope x n (y ∷ ds) d (there m) = numbered_scope x (suc n) ds d m
 
 pub entry_scope : (n : ℕ) (xs : List Schema) (e : Entry) (d : Declaration) → e ∈ entries_from n xs → d ∈ e.items → d.path.scope ≡ e.scope
 unfolding entries_from
+entry_scope n [] e d x'' m = elim x'' [ ]
 entry_scope n (x ∷ xs) e d (here q) m = numbered_scope x n (declared_by x) d (rw q at m) ∙ sym (ap (λ (z : Entry). z.scope) q)
 entry_scope n (x ∷ xs) e d (there q) m = entry_scope (n + length (declared_by x)) xs e d q m
 
 -- ---- of those that pass, the first has the lowest number
 
 low_counts : (n : ℕ) (ds : List Declaration) → Counts n ds → (d : Declaration) → d ∈ ds → n ≤ d.number
+low_counts n [] c d x'' = elim x'' [ ]
 low_counts n (y ∷ ds) c d (here q) = let z : d.number ≡ n = ap (λ (v : Declaration). v.number) q ∙ c.0 in omega arith
 low_counts n (y ∷ ds) c d (there m) = let z = low_counts (suc n) ds c.1 d m in omega arith
 
 module _ (p : Declaration → Bool) where
   lowest_by : (n : ℕ) (ds : List Declaration) → Counts n ds → (d : Declaration) → first p ds ≡ some d → (e : Declaration) → e ∈ ds → p e ≡ true → d.number ≤ e.number
   unfolding first
+  lowest_by n [] c d f e m h = elim m [ ]
   lowest_by n (y ∷ ds) c d f e m h = by (λ f e m h. lowest_by (suc n) ds c.1 d f e m h) (p y) refl f e m h
     where
       by : (first p ds ≡ some d → (e : Declaration) → e ∈ ds → p e ≡ true → d.number ≤ e.number) → (b : Bool) → p y ≡ b → cond b (some y) (first p ds) ≡ some d → (e : Declaration) → e ∈ (y ∷ ds) → p e ≡ true → d.number ≤ e.number

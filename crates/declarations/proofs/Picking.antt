@@ -65,6 +65,7 @@ module _ {A : Type 0} where
   -- one that passes is found, or one before it
   pub first_finds : (p : A → Bool) (xs : List A) (x : A) → x ∈ xs → p x ≡ true → (y : A) × (first p xs ≡ some y)
   unfolding first
+  first_finds p [] x x4 h = elim x4 [ ]
   first_finds p (y ∷ xs) x (here e) h = (y, rw (rw e at h) refl)
   first_finds p (y ∷ xs) x (there m) h = by (p y) (first_finds p xs x m h)
     where
@@ -94,6 +95,7 @@ module _ {A : Type 0} where
   nth_past (x ∷ xs) (suc k) h = nth_past xs k (omega arith)
 
   pub nth_in : (xs : List A) (x : A) → x ∈ xs → (k : ℕ) × (k < length xs) × (get_elem? xs k ≡ some x)
+  nth_in [] x x3 = elim x3 [ ]
   nth_in (y ∷ xs) x (here e) = (0, omega arith, ap some (sym e))
   nth_in (y ∷ xs) x (there m) = let r = nth_in xs x m in (suc r.0, (let z = r.1 in omega arith), r.2)
 

@@ -49,6 +49,7 @@ unfolding seen items_of declarations
 looked_at rd xs sc d m = by (last (λ e. same_scope rd e.scope sc) (entries_from 0 xs)) refl m
   where
     by : (o : Option Entry) → last (λ e. same_scope rd e.scope sc) (entries_from 0 xs) ≡ o → d ∈ items_of o → (d ∈ declarations xs) × (same_scope rd d.path.scope sc ≡ true)
+    by none k m = elim m [ ]
     by (some e) k m =
         let f = last_found (λ e. same_scope rd e.scope sc) (entries_from 0 xs) e k in
         (in_entry 0 xs e d f.0 m, rw (entry_scope 0 xs e d f.0 m) f.1)

@@ -99,6 +99,7 @@ found_or (Past k) b = refl
 -- what is found there is one of those
 pub found_there : {A : Type 0} (mk : A → Named) (x : Schema) (n : ℕ) (l : List A) (d : Declaration) → d ∈ numbered x n (map mk l) → (a : A) × (d.path ≡ path_in x (mk a))
 unfolding numbered
+found_there {A = A} mk x n [] d x'' = elim x'' [ ]
 found_there mk x n (a ∷ l) d (here q) = (a, ap (λ (z : Declaration). z.path) q)
 found_there mk x n (a ∷ l) d (there m) = found_there mk x (suc n) l d m
 
