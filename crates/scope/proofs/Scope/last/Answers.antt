@@ -1,0 +1,13 @@
+-- `Scope::last` is the last step.
+use borrow.Author.Rules.{rules}
+use Rattle.scope.proofs.Holding.{holding}
+use Rattle.scope.proofs.Scope.last.Goals as goal
+
+pub returns-then-self-eq1 : goal.returns-then-self-eq1
+returns-then-self-eq1 c = search (holding, rules)
+
+pub returns-then-self-eq2 : goal.returns-then-self-eq2
+returns-then-self-eq2 c = search (holding, rules)
+
+pub returns : goal.returns
+returns c = search (holding, rules)

@@ -1,0 +1,16 @@
+-- `Scope::popped` takes the last step away.
+use borrow.Author.Rules.{rules}
+use Rattle.scope.proofs.Holding.{holding}
+use Rattle.scope.proofs.Scope.popped.Goals as goal
+
+pub returns-then-self-eq0 : goal.returns-then-self-eq0
+returns-then-self-eq0 c = search (holding, rules)
+
+pub returns-then-self-eq1 : goal.returns-then-self-eq1
+returns-then-self-eq1 c = search (holding, rules)
+
+pub returns-then-self-eq2 : goal.returns-then-self-eq2
+returns-then-self-eq2 c = search (holding, rules)
+
+pub returns : goal.returns
+returns c = search (holding, rules)
