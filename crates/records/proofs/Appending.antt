@@ -3,13 +3,12 @@ use mathlib.Core.Path.{◌≡◌, refl, sym, ap, ◌∙◌, subst}
 use mathlib.Core.List.{List, [], ◌++◌, append_assoc, append-nil}
 use Prim.Native.Nat.{ℕ, ◌+◌, ◌*◌}
 use native.Mathlib.Omega.{arith}
-use lib.Dec.{eqb}
 use lib.ListN.{length, take, length-append}
 use Rattle.refusal.specs.MeaningAnswer.{Answer, done, refused, mapped, ◌>>=◌}
 use Rattle.grammar.specs.MeaningReading.{Reading}
 use Rattle.sheet.specs.MeaningName.{Name}
 use Rattle.grammar.proofs.Choosing.{clash}
-use Rattle.schemas.specs.MeaningSchemas.{Entity, Schema}
+use Rattle.schemas.specs.MeaningSchemas.{Schema}
 use Rattle.scope.specs.MeaningScope.{Scope}
 use Rattle.expression.specs.MeaningExpression.{Expr, Terms}
 use Rattle.expression.specs.MeaningExpression.Expr.{reference, andor, «and», oneof}
@@ -17,7 +16,7 @@ use Rattle.expression.specs.MeaningExpression.Terms.{end, ◌then◌}
 use Rattle.expression.specs.MirrorNodes.{flat, flats, height, heights}
 use Rattle.declarations.specs.MirrorNamespace.{schema_scope}
 use Rattle.records.specs.MeaningResolving.{resolved_expr, resolved_terms}
-use Rattle.records.specs.MirrorRecords.{size, sizes, level, levels, number_meant, own_number, Appends, expr_numbers, terms_numbers}
+use Rattle.records.specs.MirrorRecords.{size, sizes, level, levels, number_meant, Appends, expr_numbers, terms_numbers}
 use Rattle.records.proofs.Following.{Follows, has, has_not, follow_by, follow_bind}
 
 -- ---- what an answer says

@@ -26,7 +26,7 @@ use Rattle.declarations.specs.Told.{told_found}
 use Rattle.declarations.specs.declared.Found.{Found}
 use Rattle.declarations.specs.declared.Found.TheVariants as found
 use Rattle.records.specs.MeaningResolving.{resolved_expr, resolved_terms}
-use Rattle.records.specs.MirrorRecords.{size, sizes, level, levels, number_meant, own_number, Meets, word_at, op_of, expr_in, Appends, Within, Deep, expr_numbers, terms_numbers, told_filled}
+use Rattle.records.specs.MirrorRecords.{size, sizes, level, levels, number_meant, Meets, word_at, op_of, expr_in, Appends, Within, Deep, expr_numbers, terms_numbers, told_filled}
 use Rattle.records.specs.declared.Filled.{Filled}
 use Rattle.records.specs.declared.Filled.TheVariants.{To, Refused}
 use Rattle.records.proofs.Seeking.{met, met_none, terms_sought, terms_front, Tag, zeroth, first, second, third, tag_of}

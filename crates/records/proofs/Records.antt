@@ -4,7 +4,6 @@ use mathlib.Core.Path.{◌≡◌, refl, sym, ap, ◌∙◌, subst}
 use mathlib.Core.List.{List, [], ◌∷◌, ◌++◌, append_assoc, append-nil}
 use native.Mathlib.Numerals.{add-one}
 use native.Mathlib.Omega.{arith}
-use lib.Dec.{eqb}
 use lib.ListN.{length, get_or, take, set, length-append}
 use lib.Seq.{take_at, take-suc, take-take, take-set-lt, set_at, length-take-le}
 use Rattle.refusal.specs.MeaningAnswer.{Answer, done, refused, mapped, ◌>>=◌}
@@ -20,7 +19,7 @@ use Rattle.grammar.proofs.Choosing.{clash}
 use Rattle.schemas.specs.MeaningSchemas.{Schema}
 use Rattle.declarations.specs.MirrorNamespace.{schema_scope}
 use Rattle.records.specs.MeaningResolving.{resolved_expr}
-use Rattle.records.specs.MirrorRecords.{size, level, behind, number_meant, own_number, Appends, Stands, Front, Kept, Deep, Room, expr_numbers, record_kept, told_filled}
+use Rattle.records.specs.MirrorRecords.{size, level, behind, number_meant, Appends, Stands, Front, Kept, Deep, Room, expr_numbers, record_kept, told_filled}
 use Rattle.records.specs.declared.Filled.{Filled}
 use Rattle.records.specs.declared.Filled.TheVariants.{To, Refused}
 use Rattle.records.proofs.Appending.{Did, did, did_not}
