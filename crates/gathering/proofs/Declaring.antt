@@ -40,11 +40,13 @@ Declares l x w = (d : Declaration) × (d ∈ l) × (d.path ≡ path_in x w)
 
 declares_here : (x : Schema) (n : ℕ) (w : Named) (ws : List Named) → w ∈ ws → Declares (numbered x n ws) x w
 unfolding numbered
+declares_here x n w [] x'' = elim x'' [ ]
 declares_here x n w (v ∷ ws) (here e) = (record { number = n; path = path_in x v; named = v }, here refl, ap (path_in x) (sym e))
 declares_here x n w (v ∷ ws) (there m) = let i = declares_here x (suc n) w ws m in (i.0, there i.1, i.2)
 
 declares_all : (n : ℕ) (xs : List Schema) (x : Schema) (w : Named) → x ∈ xs → w ∈ declared_by x → Declares (all_of (entries_from n xs)) x w
 unfolding all_of entries_from
+declares_all n [] x w x4 m = elim x4 [ ]
 declares_all n (y ∷ xs) x w (here e) m = let i = declares_here y n w (declared_by y) (subst (λ (z : Schema). w ∈ declared_by z) e m) in (i.0, ∈_append_left _ _ i.1, i.2 ∙ ap (λ (z : Schema). path_in z w) (sym e))
 declares_all n (y ∷ xs) x w (there k) m = let i = declares_all (n + length (declared_by y)) xs x w k m in (i.0, ∈_append_right (numbered y n (declared_by y)) _ i.1, i.2)
 

@@ -54,6 +54,8 @@ module _ {N : Type 0} (same : N → N → Bool) where
     vacant_on : (place : ℕ) (p : N) (e : Expr N) (cs : List (Combined N)) (o : Option (Expr N)) (es : List (Expr N)) → Owns o es
         → Follows (merged_onto same []) Any (vacant same place o (behind cs p e)) (vacant same place (combine es []) (merged same p e (merged_onto same [] cs)))
     unfolding vacant combine behind
+    vacant_on place p e cs none (x ∷ _) x4 = elim x4 [ ]
+    vacant_on place p e cs (some d) [] x3 = elim x3 [ ]
     vacant_on place p e cs none [] nothing = has tt (ap done (sym (onto_more [] cs p e)))
     vacant_on place p e cs (some d) (x ∷ []) something = has_not refl
     vacant_on place p e cs (some d) (x ∷ y ∷ es) something = has_not refl

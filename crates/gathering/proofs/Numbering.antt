@@ -139,6 +139,7 @@ module _ (rd : Reading) (xs : List Schema) where
   -- ---- all is declared
   good_in : (g : List (Combined Path)) → Each (GoodCombined Good) g → (c : Combined Path) → c ∈ g → GoodCombined Good c
   unfolding Each
+  good_in [] G c x'' = elim x'' [ ]
   good_in (b ∷ g) G c (here e) = subst (GoodCombined Good) (sym e) G.0
   good_in (b ∷ g) G c (there m) = good_in g G.1 c m
 

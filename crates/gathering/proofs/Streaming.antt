@@ -30,6 +30,7 @@ Low c = height c.expr ≤ 5
 
 in_highest : {A : Type 0} (f : A → ℕ) (l : List A) (x : A) → x ∈ l → f x ≤ highest f l
 unfolding highest
+in_highest {A = A} f [] x x3 = elim x3 [ ]
 in_highest f (y ∷ l) x (here e) = let z : f x ≡ f y = ap f e in omega arith
 in_highest f (y ∷ l) x (there m) = omega (arith, in_highest f l x m)
 
