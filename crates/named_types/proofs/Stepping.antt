@@ -12,7 +12,6 @@ use Rattle.grammar.specs.MeaningReading.{Reading}
 use Rattle.grammar.proofs.Choosing.{clash}
 use Rattle.schemas.specs.MeaningTree.{tree_at}
 use Rattle.schemas.specs.MeaningSchemas.{Body, Schema, name_of, body_of, type_of, schema_of}
-use Rattle.schemas.specs.MeaningSchemas.Body.{named}
 use Rattle.scope.specs.MeaningScope.{Scope}
 use Rattle.lookup.specs.MirrorLookup.{span_of, Lies}
 use Rattle.lookup.specs.declared.Span.{Span}

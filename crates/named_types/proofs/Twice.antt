@@ -24,6 +24,7 @@ record Without {A : Type 0} (a : A) (l : List A) : Type 0 where
   rest : (b : A) → b ∈ l → (b ≡ a) ⊎ (b ∈ others)
 
 without : {A : Type 0} {a : A} {l : List A} → a ∈ l → Without a l
+without {A = A} {a = a} {l = []} x'' = elim x'' [ ]
 without {a = a} {l = c ∷ l} (here e) = record { others = l; fewer = refl; rest = by }
   where
     by : (b : _) → b ∈ (c ∷ l) → (b ≡ a) ⊎ (b ∈ l)
