@@ -176,6 +176,7 @@ pub record Going (kind : ℕ) (terms rows₀ factor₀ scratch₀ : List ℕ) (d
   pub left : Terms ℕ
   pub left_is : drop at terms ≡ flats left
   pub left_high : 2 * heights left + 1 ≤ depth
+  pub onward_by : at < length terms → 3 ≤ get_or terms (at + 2) 0
   pub so_far : Answer (List Part)
   pub fine : Fine so_far
   pub stands : Valuing so_far l (told_listed list)
@@ -204,6 +205,7 @@ set_out kind terms l factor scratch depth own small w a b c e =
       left = w.terms;
       left_is = w.is;
       left_high = w.high;
+      onward_by = λ lt. (next_term terms 0 w.terms w.is lt).some_numbers;
       so_far = done [];
       fine = good_empty;
       stands = rw e (record { says = refl; stands = empty_front });
@@ -248,9 +250,6 @@ module _ {kind : ℕ} {terms rows₀ factor₀ scratch₀ : List ℕ} {depth : �
 
     pub one_more : Fits w64 (n + 1)
     one_more = omega (arith, g.count, g.countable, lt)
-
-    pub nearer : length terms - (at + get_or terms (at + 2) 0) < length terms - at
-    nearer = omega (arith, (ahead lt).fits, (ahead lt).some_numbers, lt)
 
     deep : 2 ≤ depth - 1
     deep = omega (arith, (ahead lt).high, tall (ahead lt).expr, g.left_high)
@@ -343,6 +342,7 @@ module _ {kind : ℕ} {terms rows₀ factor₀ scratch₀ : List ℕ} {depth : �
               left = x.later;
               left_is = x.there;
               left_high = omega (arith, x.high, g.left_high);
+              onward_by = λ lt. (next_term terms (at + get_or terms (at + 2) 0) x.later x.there lt).some_numbers;
               so_far = with_term kind n g.so_far L;
               fine = fine_next (kind_of kind) n g.so_far L g.fine good;
               stands = rw (s, above_is) at w;
@@ -365,4 +365,4 @@ module _ {kind : ℕ} {terms rows₀ factor₀ scratch₀ : List ℕ} {depth : �
                 let y : values g.left ≡ (values (ahead lt).later >>= λ Ls. done (parts_at v.count ys ∷ Ls)) = (ahead lt).worth ∙ simp child_stands.0 in
                 ap (λ (u : Answer (List (List Part))). u >>= folded (kind_of kind) n g.so_far) y ∙ more (parts_at v.count ys) (values (ahead lt).later)
 
-pub ruleset walking = (set_out, ended, third_inside, span_fits, end_fits, end_inside, one_more, nearer, long_enough, rows_again, handed)
+pub ruleset walking = (set_out, ended, third_inside, span_fits, end_fits, end_inside, one_more, long_enough, rows_again, handed)

@@ -2,7 +2,7 @@
 use mathlib.Core.Path.{◌∙◌}
 use native.Mathlib.Omega.{arith}
 use borrow.Author.Rules.{rules}
-use Rattle.evaluation.proofs.Walking.{node_long, tall, leaf, inner, opened, ahead, walking, child, child_room, ready_own, ready_child, onward, third_inside, end_inside, nearer, handed}
+use Rattle.evaluation.proofs.Walking.{node_long, tall, leaf, inner, opened, ahead, walking, child, child_room, ready_own, ready_child, onward, third_inside, end_inside, handed}
 use Rattle.evaluation.proofs.+eval_node_eval_terms.Goals as goal
 
 pub eval_node-bounds-nodes-0 : goal.eval_node-bounds-nodes-0
@@ -64,9 +64,6 @@ pub eval_terms-take_in-list-requires-clause-ready : goal.eval_terms-take_in-list
 eval_terms-take_in-list-requires-clause-ready t c =
     let rc = ready_child c.loop-at.invariant c.loop-at-test.true c.eval_node-answer.result c.eval_node-answer.new.rows c.eval_node-answer.auto.rows c.eval_node-answer.ensures _ c.in-Is.is in
     (ready_own c.loop-at.invariant c.loop-at-test.true c.eval_node-answer.result c.eval_node-answer.new.rows c.eval_node-answer.auto.rows c.eval_node-answer.ensures _ c.in-Is.is, rc.0, rc.1)
-
-pub eval_terms-loop-at-smaller : goal.eval_terms-loop-at-smaller
-eval_terms-loop-at-smaller t c = nearer c.loop-at.invariant c.loop-at-test.true
 
 pub eval_terms-loop-at-preserved : goal.eval_terms-loop-at-preserved
 eval_terms-loop-at-preserved t c =
