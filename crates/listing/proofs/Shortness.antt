@@ -88,6 +88,7 @@ all_map P f [] a = tt
 all_map P f (x ∷ xs) a = (a.0, all_map P f xs a.1)
 
 pub all_in : {A : Type 0} (P : A → Type 0) (xs : List A) → All P xs → (x : A) → x ∈ xs → P x
+all_in {A = A} P [] a x x4 = elim x4 [ ]
 all_in P (y ∷ ys) a x (here e) = rw e a.0
 all_in P (y ∷ ys) a x (there m) = all_in P ys a.1 x m
 
