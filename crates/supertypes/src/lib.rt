@@ -145,6 +145,7 @@ pub fn count_to(streams: Streams, number: usize, workspace: &[u16]) -> Found
 }
 
 // Refusals 1 and 2 leave the workspace; any other answer leaves it all zero.
+#[tactic(auto, using(crate::proofs::Standing::settling))]
 pub fn settle(sheet: &[u8], workspace: &mut [u16])
     ensures { workspace.new ≡ left sheet.now workspace.old }
 {
