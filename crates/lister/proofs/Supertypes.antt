@@ -62,6 +62,7 @@ firsts_apart seen (n ∷ ns) =
 
 among_map : {A : Type 0} (f : A → ℕ) (g : List A) (c : A) → c ∈ g → among eqb (f c) (map f g) ≡ true
 unfolding among
+among_map {A = A} f [] c x' = elim x' [ ]
 among_map f (b ∷ g) c (here e) = rw (eq-eqb (f b) (f c) (ap f (sym e))) refl
 among_map f (b ∷ g) c (there m) = either (λ (v : Bool). v ≡ true) (eqb (f b) (f c)) true (among eqb (f c) (map f g)) (λ e. refl) (λ e. among_map f g c m)
 
@@ -77,6 +78,7 @@ module _ (rd : Reading) (s : List ℕ) where
   -- what stands for an owner that no other has is its own
   found_itself : (g : List (Combined Path)) → Apart (map number_of g) → ((c : Combined Path) → c ∈ g → IsDeclared rd xs c.owner) → (c : Combined Path) → c ∈ g → find (same_path rd) c.owner g ≡ some c.expr
   unfolding find
+  found_itself [] A D c x3 = elim x3 [ ]
   found_itself (b ∷ g) A D c (here e) = rw (e, (by_path rd).reflexive b.owner) refl
   found_itself (b ∷ g) A D c (there m) =
       either (λ (o : Option (Expr Path)). o ≡ some c.expr) (same_path rd b.owner c.owner) (some b.expr) (find (same_path rd) c.owner g)
