@@ -1,0 +1,13 @@
+-- The list stands at the front of the rows, whichever expression the nodes are.
+use borrow.Author.Rules.{rules}
+use Rattle.replay_rows.proofs.Evaluating.{evaluating}
+use Rattle.replay_rows.proofs.valuing.value_in.Goals as goal
+
+pub hand_out-requires : goal.hand_out-requires
+hand_out-requires c = search (evaluating, rules)
+
+pub returns-in-Refused : goal.returns-in-Refused
+returns-in-Refused c = search (evaluating, rules)
+
+pub returns-in-Is : goal.returns-in-Is
+returns-in-Is c = search (evaluating, rules)
