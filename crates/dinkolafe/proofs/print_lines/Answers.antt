@@ -1,5 +1,5 @@
 use borrow.Author.Rules.{rules}
-use Rattle.std.proofs.Common.{◌<◌, ◌+◌, ◌≤◌, length, arith}
+use Rattle.std.proofs.Common.{◌<◌, arith}
 use Rattle.lister.proofs.Turning.{goes_on}
 use Rattle.dinkolafe.proofs.Printing.{line_ends}
 use Rattle.dinkolafe.proofs.print_lines.Goals as goal
