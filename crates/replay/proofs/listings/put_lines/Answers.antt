@@ -1,5 +1,5 @@
 use borrow.Author.Rules.{rules}
-use Rattle.std.proofs.Common.{◌<◌, length, arith}
+use Rattle.std.proofs.Common.{◌<◌, arith}
 use Rattle.lister.proofs.Turning.{goes_on, line_inside}
 use Rattle.replay.proofs.Listed.{making}
 use Rattle.replay.proofs.listings.put_lines.Goals as goal
