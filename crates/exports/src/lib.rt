@@ -2,6 +2,6 @@
 #![tactic(auto)]
 
 pub mod combinations;
+pub mod lists;
 pub mod names;
-pub mod rows;
 pub mod sheets;

@@ -4,14 +4,14 @@
 ghost use Rattle.expression.specs.MirrorNodes.{Node};
 ghost use Rattle.lines.specs.Places.{Written};
 
-mod operators;
+mod operating;
 mod valuing;
 
 use algebra::Compared;
 use evaluation::DEPTH;
 use lines::Number;
 use nodes::{Built, read_node};
-use operators::ask;
+use operating::ask;
 use replay_answers::{BUFFER, listed, ordered, refused, unknown};
 use valuing::value;
 
