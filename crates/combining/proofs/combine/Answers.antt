@@ -11,10 +11,10 @@ pub overflow_cast-nodes : goal.overflow_cast-nodes
 overflow_cast-nodes c =
     omega (arith, rules_fit _ _ _ c.args.owner _ _ c.requires.records c.put_rules-middle.ensures, fresh_fit _ _ _ _ c.args.owner _ _ c.requires.records c.requires.pairs c.put_fresh-stop.ensures, c.requires.pairs_in_bounds, c.put_node-body.ensures.0, c.put_node-body.auto.nodes, c.put_rules-middle.auto.nodes, c.put_fresh-stop.auto.nodes)
 
-pub returns-then-stop-middle : goal.returns-then-stop-middle
-returns-then-stop-middle c = λ cs xs i j.
-    combined_alone _ _ c.args.nodes.now _ _ _ _ _ _ c.args.owner c.put_node-body.ensures c.put_rules-middle.ensures c.put_fresh-stop.ensures c.requires.records c.requires.pairs c.requires.pairs_in_bounds.0 c.put_node-body.auto.nodes c.put_rules-middle.auto.nodes c.put_fresh-stop.auto.nodes cs xs i j c.if-stop-middle.true _ c.alone.ensures
-
 pub returns : goal.returns
 returns c = λ cs xs i j.
     combined_more _ _ c.args.nodes.now _ _ _ _ _ _ c.args.owner c.put_node-body.ensures c.put_rules-middle.ensures c.put_fresh-stop.ensures c.requires.records c.requires.pairs c.requires.pairs_in_bounds.0 c.put_node-body.auto.nodes c.put_rules-middle.auto.nodes c.put_fresh-stop.auto.nodes cs xs i j c.if-stop-middle.false
+
+pub returns-then-stop-middle : goal.returns-then-stop-middle
+returns-then-stop-middle c = λ cs xs i j.
+    combined_alone _ _ c.args.nodes.now _ _ _ _ _ _ c.args.owner c.put_node-body.ensures c.put_rules-middle.ensures c.put_fresh-stop.ensures c.requires.records c.requires.pairs c.requires.pairs_in_bounds.0 c.put_node-body.auto.nodes c.put_rules-middle.auto.nodes c.put_fresh-stop.auto.nodes cs xs i j c.if-stop-middle.true _ c.alone.ensures
