@@ -1,7 +1,7 @@
 // Reads a sheet from standard input and prints its listing.
 #![tactic(auto)]
 
-ghost use Rattle.std.specs.Prelude.{◌+◌, ◌≤◌, length, IfOk};
+ghost use Rattle.std.specs.Prelude.{◌≡◌, ◌+◌, ◌≤◌, length, IfOk};
 ghost use Rattle.sheet.specs.Told.{told_reading};
 ghost use Rattle.listing.specs.MirrorLines.{most_line};
 ghost use Rattle.lister.specs.MirrorRest.{AtCursor};
@@ -54,10 +54,11 @@ fn read_sheet<R: Read>(input: &mut R, sheet: &mut [u8]) -> usize
     held
 }
 
-// Writes the lines out unless there is room for one more behind them; answers where the next one begins.
+// Writes the lines out unless there is room for one more behind them; answers where the next one begins. Only a write can fail.
 fn written(output: &impl Print, out: &[u8], end: usize) -> io::Result<usize>
     requires { (end ≤ length out.now) × (most_line ≤ length out.now) }
-    ensures { IfOk result (λ at. at + most_line ≤ length out.now) }
+    ensures room { IfOk result (λ at. at + most_line ≤ length out.now) }
+    ensures unwritten { end + most_line ≤ length out.now → result ≡ Ok end }
 {
     if LINE <= out.len() - end {
         return Ok(end);

@@ -1,6 +1,6 @@
 // The question `listing`. Its answer is written line by line: it may be longer than any buffer here.
 ghost use Rattle.sheet.specs.Told.{told_reading};
-ghost use Rattle.std.specs.Prelude.{◌≡◌, IfOk};
+ghost use Rattle.std.specs.Prelude.{◌≡◌, IfOk, IsOk, IsTrue};
 ghost use Rattle.grammar.specs.MeaningReading.Reading.{rust};
 ghost use Rattle.listing.specs.MeaningWhole.{Lists};
 ghost use Rattle.lister.specs.MirrorRest.{Lines, AtCursor};
@@ -60,7 +60,10 @@ fn put_digits(output: &impl Print, bytes: &[u8]) -> io::Result<()> {
     output.write_all(lines::front(&digits, end))
 }
 
-fn put_end(output: &impl Print, some: bool) -> io::Result<()> {
+// Where lines were written nothing is left to write.
+fn put_end(output: &impl Print, some: bool) -> io::Result<()>
+    ensures { IsTrue some → IsOk result }
+{
     if !some {
         put_digits(output, b"")?;
     }
