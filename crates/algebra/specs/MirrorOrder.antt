@@ -1,11 +1,10 @@
 -- Two operands as the code judges them.
-use Rattle.complex_entity.specs.declared.Verdict.{Verdict}
-use Rattle.complex_entity.specs.declared.Verdict.TheVariants.{Done, Refused}
-use Rattle.operands.specs.declared.Read.{Read}
-use Rattle.operands.specs.declared.Read.TheVariants.{Whole, Wrong}
+use Rattle.std.specs.Prelude.{ℕ, Result, Ok, Err}
+use Rattle.refusal.specs.declared.Reason.TheVariants.{Malformed}
+use Rattle.refusal.specs.declared.Refusal.{Refusal}
 
 -- the left operand's 15, else the right one's
-unfoldable pub judged_both : Read → Read → Verdict
-judged_both (Wrong k) s = Refused (record { number = 15; place = k })
-judged_both Whole (Wrong k) = Refused (record { number = 15; place = k })
-judged_both Whole Whole = Done
+unfoldable pub judged_both : Result (Unit {0}) ℕ → Result (Unit {0}) ℕ → Result (Unit {0}) Refusal
+judged_both (Err k) s = Err (record { reason = Malformed; place = k })
+judged_both (Ok u) (Err k) = Err (record { reason = Malformed; place = k })
+judged_both (Ok u) (Ok v) = Ok tt

@@ -1,1 +1,2 @@
-pub mod Coding
+-- The laws that the proofs of this crate cite.
+pub mod Reading

@@ -1,34 +1,30 @@
--- What C is told of each answer that is no number: lists, declarations and sets are told as their own crates say.
-use Rattle.std.specs.Prelude.{ℕ, List}
+-- What C is told of each answer, by the one number that its value is told as: lists are told as their own crate says.
+use Rattle.std.specs.Prelude.{ℕ, List, Bool, Option, Result}
+use Rattle.std.specs.declared.cmp.Ordering.{Ordering}
 use Rattle.refusal.specs.MeaningAnswer.{Answer, mapped}
-use Rattle.algebra.specs.Told as rows
-use Rattle.algebra.specs.declared.Compared as parts
-use Rattle.sheet.specs.Told.{told}
-use Rattle.sheet.specs.declared.Judgement.{Judgement}
-use Rattle.scope.specs.Told as scopes
-use Rattle.scope.specs.declared.Compared as scope
-use Rattle.query.specs.declared.Verdict.{Verdict}
-use Rattle.namespace.specs.Told.{told_verdict}
-use Rattle.constraints.specs.Told.{told_decision}
-use Rattle.constraints.specs.declared.Decision.{Decision}
+use Rattle.refusal.specs.Told.{told_by}
+use Rattle.refusal.specs.declared.Refusal.{Refusal}
+use Rattle.complex_entity.specs.Told.{told_order}
+use Rattle.scope.specs.Told.{told_compared}
 use Rattle.type_ref.specs.Told.{told_type_ref}
 use Rattle.type_ref.specs.declared.TypeRef.{TypeRef}
 use Rattle.codes.specs.MeaningCode.{flag, sign, sign_or_none, kind}
 
-unfoldable pub judged : Judgement → Answer ℕ
-judged r = mapped (λ u. 0) (told r)
+abbrev pub numbered : Result ℕ Refusal → Answer ℕ
+numbered r = told_by (λ n. n) r
 
-unfoldable pub clear : Verdict → Answer ℕ
-clear r = mapped (λ u. 0) (told_verdict r)
+-- nothing but yes
+abbrev pub judged : Result (Unit {0}) Refusal → Answer ℕ
+judged r = told_by (λ u. 0) r
 
-unfoldable pub decided : Decision → Answer ℕ
-decided r = mapped flag (told_decision r)
+abbrev pub decided : Result Bool Refusal → Answer ℕ
+decided r = told_by flag r
 
-unfoldable pub compared_parts : parts.Compared → Answer ℕ
-compared_parts r = mapped sign (rows.told_compared r)
+abbrev pub compared_parts : Result Ordering Refusal → Answer ℕ
+compared_parts r = told_by (λ o. sign (told_order o)) r
 
-unfoldable pub compared_scopes : scope.Compared → Answer ℕ
-compared_scopes r = mapped sign_or_none (scopes.told_compared r)
+abbrev pub compared_scopes : Result (Option Ordering) Refusal → Answer ℕ
+compared_scopes r = told_by (λ o. sign_or_none (told_compared o)) r
 
 -- of a path, which the answer has from the query, the flags alone
 unfoldable pub typed : (query : List ℕ) → TypeRef → Answer ℕ

@@ -1,149 +1,142 @@
 // An answer as two numbers.
 #![tactic(auto)]
 
-ghost use Rattle.std.specs.Prelude.{◌≡◌, ◌≤◌};
-ghost use Rattle.instantiables.specs.Told.{told_listed};
-ghost use Rattle.expression.specs.Told.{told_number};
-ghost use Rattle.declarations.specs.Told.{told_found};
-ghost use Rattle.codes.specs.MeaningCode.{flag};
-ghost use Rattle.codes.specs.Told.{judged, clear, decided, compared_parts, compared_scopes, typed};
+ghost use Rattle.std.specs.Prelude.{◌≡◌, ℕ, List};
+ghost use Rattle.refusal.specs.Told.{told_by};
+ghost use Rattle.complex_entity.specs.Told.{told_order};
+ghost use Rattle.scope.specs.Told.{told_compared};
+ghost use Rattle.codes.specs.MeaningCode.{read, flag, sign, sign_or_none};
+ghost use Rattle.codes.specs.Told.{typed};
 ghost use Rattle.codes.specs.MirrorCode.{code_of};
 
-use complex_entity::Order;
-use constraints::Decision;
-use declarations::Found;
-use expression::Numbered;
-use instantiables::Listed;
-use query::Verdict;
+use instantiables::Instantiables;
 use refusal::Refusal;
-use sheet::Judgement;
+use std::cmp::Ordering;
 use type_ref::TypeRef;
 
-// A refusal's number and place; or 0, and the value.
-#[derive(Clone, Copy)]
-pub struct Code {
-    pub number: u8,
-    pub value: u64,
-}
+// What C gets of an answer's value: one number.
+pub trait Value: Copy {
+    ghost told: { Self → ℕ };
 
-fn answered(value: u64) -> Code
-    ensures { result ≡ record { number = 0; value = value } }
-{
-    Code { number: 0, value }
-}
-
-fn refused(why: Refusal) -> Code
-    ensures { result ≡ record { number = why.number; value = why.place } }
-{
-    Code {
-        number: why.number,
-        value: why.place as u64,
-    }
-}
-
-fn flag_of(yes: bool) -> u64
-    ensures { (result ≡ flag yes) × (result ≤ 1) }
-{
-    if yes {
-        return 1;
-    }
-    0
+    fn value(self) -> u64
+        ensures { result ≡ told self };
 }
 
 // ---- numbers
 
-pub fn of_listed(answer: Listed) -> Code
-    ensures { result ≡ code_of (told_listed answer) }
-{
-    match answer {
-        Listed::Rows(list) => answered(list.count as u64),
-        Listed::Refused(why) => refused(why),
+impl Value for usize {
+    ghost told = { λ number. number };
+
+    fn value(self) -> u64 {
+        self as u64
     }
 }
 
-pub fn of_found(answer: Found) -> Code
-    ensures { result ≡ code_of (told_found answer) }
-{
-    match answer {
-        Found::Number(n) => answered(n as u64),
-        Found::Refused(why) => refused(why),
+impl Value for u16 {
+    ghost told = { λ number. number };
+
+    fn value(self) -> u64 {
+        u64::from(self)
     }
 }
 
-pub fn of_numbered(answer: Numbered) -> Code
-    ensures { result ≡ code_of (told_number answer) }
-{
-    match answer {
-        Numbered::Number(n) => answered(n as u64),
-        Numbered::Refused(why) => refused(why),
+// How many parts a list has.
+impl Value for Instantiables {
+    ghost told = { λ list. list.count };
+
+    fn value(self) -> u64 {
+        self.count.value()
     }
 }
 
 // ---- what is yes or no, or nothing but yes
 
-pub fn of_judgement(answer: Judgement) -> Code
-    ensures { result ≡ code_of (judged answer) }
-{
-    match answer {
-        Judgement::Accepted => answered(0),
-        Judgement::Refused(why) => refused(why),
+impl Value for bool {
+    ghost told = { flag };
+
+    fn value(self) -> u64 {
+        u64::from(self)
     }
 }
 
-pub fn of_verdict(answer: Verdict) -> Code
-    ensures { result ≡ code_of (clear answer) }
-{
-    match answer {
-        Verdict::Done => answered(0),
-        Verdict::Refused(why) => refused(why),
-    }
-}
+impl Value for () {
+    ghost told = { λ yes. 0 };
 
-pub fn of_decision(answer: Decision) -> Code
-    ensures { result ≡ code_of (decided answer) }
-{
-    match answer {
-        Decision::No => answered(0),
-        Decision::Yes => answered(1),
-        Decision::Refused(why) => refused(why),
+    fn value(self) -> u64 {
+        0
     }
 }
 
 // ---- comparisons
 
-pub fn of_parts(answer: algebra::Compared) -> Code
-    ensures { result ≡ code_of (compared_parts answer) }
-{
-    match answer {
-        algebra::Compared::Is(order) => match order {
-            Order::Less => answered(0),
-            Order::Same => answered(1),
-            Order::More => answered(2),
-        },
-        algebra::Compared::Refused(why) => refused(why),
+impl Value for Ordering {
+    ghost told = { λ order. sign (told_order order) };
+
+    fn value(self) -> u64 {
+        match self {
+            Ordering::Less => 0,
+            Ordering::Equal => 1,
+            Ordering::Greater => 2,
+        }
     }
 }
 
-pub fn of_scopes(answer: scope::Compared) -> Code
-    ensures { result ≡ code_of (compared_scopes answer) }
-{
-    match answer {
-        scope::Compared::Less => answered(0),
-        scope::Compared::Equal => answered(1),
-        scope::Compared::Greater => answered(2),
-        scope::Compared::Unordered => answered(3),
-        scope::Compared::Refused(why) => refused(why),
+impl Value for Option<Ordering> {
+    ghost told = { λ order. sign_or_none (told_compared order) };
+
+    #[tactic(auto, unfolding(scope::specs::Told::told_compared))]
+    fn value(self) -> u64 {
+        match self {
+            Some(order) => order.value(),
+            None => 3,
+        }
     }
+}
+
+// A refusal's number and place; or 0, and the value.
+#[derive(Clone, Copy, Debug, PartialEq, Eq)]
+pub struct Code {
+    pub number: u8,
+    pub value: u64,
+}
+
+impl Code {
+    pub fn of<T: Value>(answer: Result<T, Refusal>) -> Self
+        ensures { result ≡ code_of (told_by T.told answer) }
+    {
+        match answer {
+            Ok(value) => Self {
+                number: 0,
+                value: value.value(),
+            },
+            Err(why) => Self {
+                number: why.reason.into(),
+                value: why.place as u64,
+            },
+        }
+    }
+}
+
+// For C: writes the value, or the refusal's place, where the caller points; answers 0, or the refusal's number.
+#[tactic(auto, using(crate::proofs::Reading::code_read))]
+pub fn hand_out<T: Value>(answer: Result<T, Refusal>, value: &mut u64) -> u8
+    ensures { told_by T.told answer ≡ read result value.new }
+{
+    let code = Code::of(answer);
+    *value = code.value;
+    code.number
 }
 
 // ---- types
 
-pub fn of_type(query: &[u8], answer: TypeRef) -> Code
-    ensures { result ≡ code_of (typed query.now answer) }
+// A type's kind, which is all of it that C gets. A function of its own, since TypeRef is no Result: document 01's form.
+#[tactic(auto, unfolding(crate::specs::Told::typed, type_ref::specs::Told::told_type_ref))]
+pub fn kind_of(answer: TypeRef) -> Result<u16, Refusal>
+    ensures { (query : List ℕ) → told_by (λ kind. kind) result ≡ typed query answer }
 {
     match answer {
-        TypeRef::Entity(x) => answered(flag_of(x.is_supertype)),
-        TypeRef::Named(x) => answered(4 + (2 * flag_of(x.is_simple) + flag_of(x.is_enumerate))),
-        TypeRef::Refused(why) => refused(why),
+        TypeRef::Entity(x) => Ok(u16::from(x.is_supertype)),
+        TypeRef::Named(x) => Ok(4 + 2 * u16::from(x.is_simple) + u16::from(x.is_enumerate)),
+        TypeRef::Refused(why) => Err(why),
     }
 }

@@ -2,7 +2,7 @@
 use mathlib.Core.Path.{◌≡◌, refl, sym, ap, ◌∙◌}
 use mathlib.Core.Logic.{inl, inr}
 use mathlib.Core.List.{List, [], ◌∷◌, ◌++◌, append_assoc, append-nil}
-use mathlib.Core.Bool.{true, false}
+use mathlib.Core.Bool.{true}
 use mathlib.Core.Option.{none, some}
 use Prim.Native.Nat.{ℕ, zero, suc, ◌+◌, ◌-◌, ◌≤◌}
 use native.Mathlib.Nat.{zero-add, suc-add}
@@ -17,6 +17,8 @@ use Rattle.merging.specs.MeaningMerging.{Combined, Pair, references}
 use Rattle.merging.specs.MeaningItems.{exprs_of, subs_of, all_factors, fresh, combine, combined_of}
 use Rattle.merging.specs.MeaningRenaming.{Each}
 use Rattle.merging.specs.MirrorStream.{stream_of, pairs_of, Records, Pairs, Appended, Holds, begins, alone_of}
+use Rattle.std.specs.Prelude as told
+use Rattle.std.specs.Prelude.{None, Some}
 use Rattle.merging.specs.declared.Combination.{Combination}
 use Rattle.merging.proofs.Factors.{both, not_both, append_end}
 use Rattle.factors.proofs.Putting.{rules_short, fresh_in, flats_all}
@@ -68,25 +70,25 @@ module _ {l : List ℕ} {stop : ℕ} {t : Terms ℕ} (u : Under l stop t) where
       let n : stop ≡ 3 + (stop - 3) = omega (arith, u.ends) in
       sym (drop_take 3 (stop - 3) l) ∙ ap (λ (k : ℕ). drop 3 (take k l)) (sym n) ∙ ap (drop 3) u.front
 
-  holds_andor : Holds (some (andor t)) l (record { found = true; start = 0; stop = stop })
+  holds_andor : Holds (some (andor t)) l (Some (record { start = 0; stop = stop }))
   unfolding Holds
-  holds_andor = (refl, omega arith, u.inside, with_header)
+  holds_andor = (omega arith, u.inside, with_header)
 
-  holds_other : (e : Expr ℕ) → flats t ≡ flat e → Holds (some e) l (record { found = true; start = 3; stop = stop })
+  holds_other : (e : Expr ℕ) → flats t ≡ flat e → Holds (some e) l (Some (record { start = 3; stop = stop }))
   unfolding Holds
-  holds_other e i = (refl, omega (arith, u.ends), u.inside, without_header ∙ i)
+  holds_other e i = (omega (arith, u.ends), u.inside, without_header ∙ i)
 
 -- one item stays as it is
-holds_one : (e : Expr ℕ) (l : List ℕ) (stop : ℕ) → Under l stop (factors e) → Holds (some e) l (record { found = true; start = begins e; stop = stop })
+holds_one : (e : Expr ℕ) (l : List ℕ) (stop : ℕ) → Under l stop (factors e) → Holds (some e) l (Some (record { start = begins e; stop = stop }))
 unfolding factors begins flat
 holds_one (reference n) l stop u = holds_other u (reference n) refl
 holds_one (andor t) l stop u = holds_andor u
 holds_one («and» t) l stop u = holds_other u («and» t) (append-nil (flat («and» t)))
 holds_one (oneof t) l stop u = holds_other u (oneof t) (append-nil (flat (oneof t)))
 
-holds_none : (l : List ℕ) → Holds none l (record { found = false; start = 0; stop = 0 })
+holds_none : (l : List ℕ) → Holds none l None
 unfolding Holds
-holds_none l = refl
+holds_none l = tt
 
 holds_alone : (es : List (Expr ℕ)) (l : List ℕ) (stop : ℕ) → Under l stop (all_factors es end) → Holds (combine es []) l (alone_of es stop)
 unfolding combine alone_of all_factors
@@ -94,7 +96,7 @@ holds_alone [] l stop u = holds_none l
 holds_alone (e ∷ []) l stop u = holds_one e l stop (rw (append_end (factors e)) at u)
 holds_alone (e ∷ d ∷ es) l stop u = holds_andor u
 
-holds_more : (es : List (Expr ℕ)) (y : ℕ) (ys : List ℕ) (l : List ℕ) (stop : ℕ) → Under l stop (all_factors es (references (y ∷ ys))) → Holds (combine es (y ∷ ys)) l (record { found = true; start = 0; stop = stop })
+holds_more : (es : List (Expr ℕ)) (y : ℕ) (ys : List ℕ) (l : List ℕ) (stop : ℕ) → Under l stop (all_factors es (references (y ∷ ys))) → Holds (combine es (y ∷ ys)) l (Some (record { start = 0; stop = stop }))
 unfolding combine
 holds_more [] y ys l stop u = holds_andor u
 holds_more (e ∷ []) y ys l stop u = holds_andor u
@@ -149,16 +151,16 @@ module _ (rules pairs before one two three : List ℕ) (body middle stop owner :
   built : Under (set three 2 stop) stop (all_factors (exprs_of eqb owner cs) (references rest))
   built = under one two three middle stop (exprs_of eqb owner cs) rest (header before one p.1) three_first (r cs xs i j) inside
 
-  pub combined_more : (stop ≡ middle → ⊥) → Holds (combined_of eqb owner cs xs) (set three 2 stop) (record { found = true; start = 0; stop = stop })
+  pub combined_more : (stop ≡ middle → ⊥) → Holds (combined_of eqb owner cs xs) (set three 2 stop) (Some (record { start = 0; stop = stop }))
   unfolding combined_of
   combined_more d = go rest built (r cs xs i j).ends
     where
       go : (ys : List ℕ) → Under (set three 2 stop) stop (all_factors (exprs_of eqb owner cs) (references ys)) → stop ≡ middle + length (flats (references ys))
-          → Holds (combine (exprs_of eqb owner cs) ys) (set three 2 stop) (record { found = true; start = 0; stop = stop })
+          → Holds (combine (exprs_of eqb owner cs) ys) (set three 2 stop) (Some (record { start = 0; stop = stop }))
       go [] u e = absurd (d (omega (arith, none_left)))
       go (y ∷ ys) u e = holds_more (exprs_of eqb owner cs) y ys (set three 2 stop) stop u
 
-  pub combined_alone : stop ≡ middle → (c : Combination) → ((ds : List (Combined ℕ)) → rules ≡ stream_of ds → c ≡ alone_of (exprs_of eqb owner ds) stop) → Holds (combined_of eqb owner cs xs) (set three 2 stop) c
+  pub combined_alone : stop ≡ middle → (c : told.Option Combination) → ((ds : List (Combined ℕ)) → rules ≡ stream_of ds → c ≡ alone_of (exprs_of eqb owner ds) stop) → Holds (combined_of eqb owner cs xs) (set three 2 stop) c
   unfolding combined_of references
   combined_alone d c f = rw (f cs i) (go rest built (r cs xs i j).ends)
     where

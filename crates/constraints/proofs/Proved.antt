@@ -1,5 +1,5 @@
 -- Every claim holds.
-use mathlib.Core.Path.{◌≡◌, refl, sym, ap, ◌∙◌}
+use mathlib.Core.Path.{◌≡◌, sym, ap, ◌∙◌}
 use mathlib.Core.List.{List}
 use Prim.Native.Nat.{ℕ}
 use lib.ListN.{length}
@@ -8,24 +8,20 @@ use Rattle.refusal.proofs.Same.{same_refusal}
 use Rattle.grammar.proofs.Choosing.{clash}
 use Rattle.query.specs.MeaningQuery.{path_query}
 use Rattle.complex_entity.specs.MeaningParts.{Part}
-use Rattle.instantiables.specs.declared.Listed.{Listed}
+use Rattle.std.specs.Prelude.{Result, Ok, Err}
+use Rattle.refusal.specs.Told.{told}
+use Rattle.refusal.specs.declared.Refusal.{Refusal}
+use Rattle.instantiables.specs.declared.Instantiables.{Instantiables}
 use Rattle.operands.specs.MeaningOperands.{read_part, both, part}
 use Rattle.operands.proofs.Once as rows
-use Rattle.expression.specs.Told.{told_number}
-use Rattle.expression.specs.declared.Numbered.{Numbered}
-use Rattle.expression.specs.declared.Numbered.TheVariants as numbered
 use Rattle.declarations.specs.MeaningNamespace.{schemas_in}
-use Rattle.declarations.specs.Told.{told_found}
-use Rattle.declarations.proofs.Proved.{get_apart, found_once}
+use Rattle.declarations.proofs.Proved.{get_apart}
 use Rattle.namespace.proofs.Clearing.{answers_once}
 use Rattle.gathering.proofs.Declaring.{number_is}
 use Rattle.supertypes.specs.MeaningWorkspace.{enough}
 use Rattle.constraints.specs.MeaningQuestions.{supertype_question, ask_list, ask_number, ask_row_into, ask_supertype}
-use Rattle.constraints.specs.Told.{told_decision}
 use Rattle.constraints.specs.Promises.{PromiseSupertype, Rows, PromiseList, PromiseRow, PromiseNumber, PromiseKth}
 use Rattle.constraints.specs.Claims.{Demand3, NamesApart, SupertypeOnce, ListOnce, RowOnce, NumberOnce, KthOnce}
-use Rattle.constraints.specs.declared.Decision.{Decision}
-use Rattle.constraints.specs.declared.Decision.TheVariants.{Yes, No, Refused}
 use Rattle.constraints.proofs.Demand.{numbers}
 
 pub demand_3 : Demand3
@@ -40,32 +36,20 @@ names_apart rd s p q P Q =
 
 -- ---- different answers say different things
 
-decision_once : (a b : Decision) → told_decision a ≡ told_decision b → a ≡ b
-unfolding told_decision
-decision_once Yes Yes e = refl
-decision_once Yes No e = clash (cc)
-decision_once Yes (Refused r) e = clash (cc)
-decision_once No Yes e = clash (cc)
-decision_once No No e = refl
-decision_once No (Refused r) e = clash (cc)
-decision_once (Refused r) Yes e = clash (cc)
-decision_once (Refused r) No e = clash (cc)
-decision_once (Refused r) (Refused q) e = ap Refused (same_refusal r q (cc) (cc))
-
-numbered_once : (a b : Numbered) → told_number a ≡ told_number b → a ≡ b
-numbered_once (numbered.Number i) (numbered.Number j) e = cc
-numbered_once (numbered.Number i) (numbered.Refused r) e = clash (cc)
-numbered_once (numbered.Refused r) (numbered.Number i) e = clash (cc)
-numbered_once (numbered.Refused r) (numbered.Refused q) e = ap numbered.Refused (same_refusal r q (cc) (cc))
+told_once : {A : Type 0} (a b : Result A Refusal) → told a ≡ told b → a ≡ b
+told_once (Ok x) (Ok y) e = let z : x ≡ y = cc in ap Ok z
+told_once (Ok x) (Err q) e = clash (cc)
+told_once (Err r) (Ok y) e = clash (cc)
+told_once (Err r) (Err q) e = ap Err (same_refusal r q (cc) (cc))
 
 -- ---- one input allows one outcome
 
 pub supertype_once : SupertypeOnce
 unfolding PromiseSupertype
-supertype_once rd s q work r r' w w' x y = (decision_once r r' (answers_once rd s (enough work) (path_query q) (supertype_question rd (schemas_in s)) (told_decision r) (told_decision r') x.0 y.0), x.1 ∙ sym y.1)
+supertype_once rd s q work r r' w w' x y = (told_once r r' (answers_once rd s (enough work) (path_query q) (supertype_question rd (schemas_in s)) (told r) (told r') x.0 y.0), x.1 ∙ sym y.1)
 
 -- of answers that are rows
-rows_once : (Is : Answer (List Part) → Type 0) → ((o o' : Answer (List Part)) → Is o → Is o' → o ≡ o') → (s work out : List ℕ) (r r' : Listed) (w w' b b' : List ℕ) → Rows Is s work out r w b → Rows Is s work out r' w' b'
+rows_once : (Is : Answer (List Part) → Type 0) → ((o o' : Answer (List Part)) → Is o → Is o' → o ≡ o') → (s work out : List ℕ) (r r' : Result Instantiables Refusal) (w w' b b' : List ℕ) → Rows Is s work out r w b → Rows Is s work out r' w' b'
     → (r ≡ r') × (w ≡ w') × (b ≡ b')
 unfolding Rows
 rows_once Is once s work out r r' w w' b b' x y =
@@ -83,8 +67,8 @@ row_once rd s q i work out = rows_once _ (λ o o'. answers_once rd s (enough wor
 pub number_once : NumberOnce
 unfolding PromiseNumber
 number_once rd s q row work r r' w w' x y =
-    (numbered_once r r' (answers_once rd s (enough work) (both (path_query q) (read_part row)) (λ a. ask_number rd (schemas_in s) a.0 (part a.1)) (told_number r) (told_number r') x.0 y.0), x.1 ∙ sym y.1)
+    (told_once r r' (answers_once rd s (enough work) (both (path_query q) (read_part row)) (λ a. ask_number rd (schemas_in s) a.0 (part a.1)) (told r) (told r') x.0 y.0), x.1 ∙ sym y.1)
 
 pub kth_once : KthOnce
 unfolding PromiseKth
-kth_once rd s k work r r' w w' x y = (found_once r r' (answers_once rd s (enough work) (done k) (ask_supertype rd (schemas_in s)) (told_found r) (told_found r') x.0 y.0), x.1 ∙ sym y.1)
+kth_once rd s k work r r' w w' x y = (told_once r r' (answers_once rd s (enough work) (done k) (ask_supertype rd (schemas_in s)) (told r) (told r') x.0 y.0), x.1 ∙ sym y.1)

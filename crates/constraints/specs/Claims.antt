@@ -1,24 +1,22 @@
 -- What is proved, to be read without the proofs: each claim is a type, and proofs/Proved.antt has a member of each.
-use Rattle.std.specs.Prelude.{ℕ, ◌<◌, ◌≤◌, ◌≡◌, ◌↔◌, List, true, length}
+use Rattle.std.specs.Prelude.{ℕ, ◌<◌, ◌≤◌, ◌≡◌, ◌↔◌, List, Bool, true, Result, length}
 use Rattle.refusal.specs.MeaningAnswer.{done, refused}
+use Rattle.refusal.specs.declared.Refusal.{Refusal}
 use Rattle.grammar.specs.MeaningReading.{Reading}
 use Rattle.scope.specs.MeaningScope.{Path, same_path}
 use Rattle.query.specs.MeaningQuery.{path_query}
 use Rattle.complex_entity.specs.MeaningRising.{◌∈◌, Rising}
 use Rattle.complex_entity.specs.MeaningParts.{Part, order}
-use Rattle.instantiables.specs.declared.Listed.{Listed}
+use Rattle.instantiables.specs.declared.Instantiables.{Instantiables}
 use Rattle.expression.specs.MeaningExpression.{Expr}
 use Rattle.expression.specs.MeaningBuilds.{Builds}
-use Rattle.expression.specs.declared.Numbered.{Numbered}
 use Rattle.merging.specs.MeaningNumbering.{map_expr}
 use Rattle.declarations.specs.MeaningNamespace.{schemas_in}
-use Rattle.declarations.specs.declared.Found.{Found}
 use Rattle.records.specs.MeaningResolving.{number_for}
 use Rattle.gathering.specs.MeaningCombined.{combined, list_of}
 use Rattle.gathering.specs.Claims.{IsDeclared, Every}
 use Rattle.constraints.specs.MeaningQuestions.{ask_number, ask_row}
 use Rattle.constraints.specs.Promises.{PromiseSupertype, PromiseList, PromiseRow, PromiseNumber, PromiseKth}
-use Rattle.constraints.specs.declared.Decision.{Decision}
 
 -- ---- demand 3: of the bytes s and a path p, whose combined expression is e and whose list is L. A name is the number of the declaration that a path leads to
 pub record Numbers (rd : Reading) (s : List ℕ) (p : Path) (e : Expr Path) (L : List Part) : Type 0 where
@@ -48,18 +46,18 @@ NamesApart = (rd : Reading) (s : List ℕ) (p q : Path) → IsDeclared rd (schem
 -- ---- one input allows one outcome
 
 abbrev pub SupertypeOnce : Type 0
-SupertypeOnce = (rd : Reading) (s q work : List ℕ) (r r' : Decision) (w w' : List ℕ) → PromiseSupertype rd s q work r w → PromiseSupertype rd s q work r' w' → (r ≡ r') × (w ≡ w')
+SupertypeOnce = (rd : Reading) (s q work : List ℕ) (r r' : Result Bool Refusal) (w w' : List ℕ) → PromiseSupertype rd s q work r w → PromiseSupertype rd s q work r' w' → (r ≡ r') × (w ≡ w')
 
 abbrev pub ListOnce : Type 0
-ListOnce = (rd : Reading) (s q work out : List ℕ) (r r' : Listed) (w w' o o' : List ℕ)
+ListOnce = (rd : Reading) (s q work out : List ℕ) (r r' : Result Instantiables Refusal) (w w' o o' : List ℕ)
     → PromiseList rd s q work out r w o → PromiseList rd s q work out r' w' o' → (r ≡ r') × (w ≡ w') × (o ≡ o')
 
 abbrev pub RowOnce : Type 0
-RowOnce = (rd : Reading) (s q : List ℕ) (i : ℕ) (work out : List ℕ) (r r' : Listed) (w w' o o' : List ℕ)
+RowOnce = (rd : Reading) (s q : List ℕ) (i : ℕ) (work out : List ℕ) (r r' : Result Instantiables Refusal) (w w' o o' : List ℕ)
     → PromiseRow rd s q i work out r w o → PromiseRow rd s q i work out r' w' o' → (r ≡ r') × (w ≡ w') × (o ≡ o')
 
 abbrev pub NumberOnce : Type 0
-NumberOnce = (rd : Reading) (s q row work : List ℕ) (r r' : Numbered) (w w' : List ℕ) → PromiseNumber rd s q row work r w → PromiseNumber rd s q row work r' w' → (r ≡ r') × (w ≡ w')
+NumberOnce = (rd : Reading) (s q row work : List ℕ) (r r' : Result ℕ Refusal) (w w' : List ℕ) → PromiseNumber rd s q row work r w → PromiseNumber rd s q row work r' w' → (r ≡ r') × (w ≡ w')
 
 abbrev pub KthOnce : Type 0
-KthOnce = (rd : Reading) (s : List ℕ) (k : ℕ) (work : List ℕ) (r r' : Found) (w w' : List ℕ) → PromiseKth rd s k work r w → PromiseKth rd s k work r' w' → (r ≡ r') × (w ≡ w')
+KthOnce = (rd : Reading) (s : List ℕ) (k : ℕ) (work : List ℕ) (r r' : Result ℕ Refusal) (w w' : List ℕ) → PromiseKth rd s k work r w → PromiseKth rd s k work r' w' → (r ≡ r') × (w ≡ w')

@@ -3,55 +3,32 @@
 // The questions about supertypes: which there are, their lists, and the numbers of the sets in a list.
 #![tactic(auto)]
 
-ghost use Rattle.std.specs.Prelude.{◌≡◌, length, drop};
-ghost use Rattle.refusal.specs.MeaningAnswer.{Answer, done};
+ghost use Rattle.std.specs.Prelude.{◌≡◌, IfOk};
+ghost use Rattle.refusal.specs.MeaningAnswer.{mapped};
+ghost use Rattle.refusal.specs.Told.{told_by};
 ghost use Rattle.grammar.specs.MeaningReading.Reading.{rust};
 ghost use Rattle.sheet.specs.Told.{told_reading};
-ghost use Rattle.query.specs.MeaningQuery.{path_query};
-ghost use Rattle.complex_entity.specs.MeaningParts.{Part};
-ghost use Rattle.complex_entity.specs.MirrorParts.{names_of, made_of};
-ghost use Rattle.operands.specs.Promises as rows;
-ghost use Rattle.expression.specs.Told.{told_number};
-ghost use Rattle.declarations.specs.MeaningNamespace.{schemas_in};
-ghost use Rattle.declarations.specs.Told.{told_found};
-ghost use Rattle.namespace.specs.MeaningOrder.{Answers};
-ghost use Rattle.namespace.specs.Told.{told_verdict};
-ghost use Rattle.supertypes.specs.MeaningWorkspace.{enough, left};
-ghost use Rattle.constraints.specs.MeaningQuestions.{supertype_question, ask_supertype};
-ghost use Rattle.supertypes.specs.MirrorStanding.{list_at, StandsIf};
-ghost use Rattle.constraints.specs.MirrorAnswers.{in_turn, Lists, list_into, set_into, row_into, RowRead, place_in};
-ghost use Rattle.constraints.specs.Told.{told_decision};
+ghost use Rattle.scope.specs.MirrorScope.{Spans};
+ghost use Rattle.complex_entity.specs.MirrorParts.{names_of};
+ghost use Rattle.operands.specs.MeaningOperands.{read_part, part};
+ghost use Rattle.supertypes.specs.MeaningWorkspace.{left};
+ghost use Rattle.constraints.specs.MirrorAsked.{path_and_part, told_both};
 ghost use Rattle.constraints.specs.Promises.{PromiseSupertype, PromiseList, PromiseRow, PromiseNumber, PromiseKth};
 
-use complex_entity::{Made, PartialComplexEntity, Verdict as Making};
-use declarations::Found;
-use expression::{Numbered, Valued, number_of as number_in, set_at};
-use gathering::Gathered;
-use instantiables::{Instantiables, Listed};
-use operands::{Operand, Read, hand_out, hand_out_part, read_operand};
-use query::{Verdict, read_path};
-use refusal::Refusal;
+use complex_entity::PartialComplexEntity;
+use expression::{number_of as number_in, set_at};
+use instantiables::Instantiables;
+use operands::{Operand, Part, hand_out, hand_out_part};
+use query::read_path;
+use refusal::{Reason, Refusal};
+use scope::Path;
 use sheet::Reading;
 use supertypes::{RECORDS, count_to, gathered, list_at, owns, settle};
 
-#[derive(Clone, Copy)]
-pub enum Decision {
-    Yes,
-    No,
-    Refused(Refusal),
-}
-
-// A row that is asked for: the verdict on it, and the part it holds.
-#[derive(Clone, Copy)]
-pub struct AskedRow {
-    pub verdict: Verdict,
-    pub part: PartialComplexEntity,
-}
-
-// ---- The questions.
+// ---- The questions. Each works out its answer, and then settles the workspace; until then its promise is of what is left.
 
 // Whether the path is a supertype.
-pub fn is_supertype(sheet: &[u8], query: &[u8], workspace: &mut [u16]) -> Decision
+pub fn is_supertype(sheet: &[u8], query: &[u8], workspace: &mut [u16]) -> Result<bool, Refusal>
     ensures { PromiseSupertype rust sheet.now query.now workspace.old result workspace.new }
 {
     is_supertype_in(Reading::Rust, sheet, query, workspace)
@@ -63,7 +40,7 @@ pub fn is_supertype_in(
     sheet: &[u8],
     query: &[u8],
     workspace: &mut [u16],
-) -> Decision
+) -> Result<bool, Refusal>
     ensures { PromiseSupertype (told_reading reading) sheet.now query.now workspace.old result workspace.new }
 {
     let decision = decided(reading, sheet, query, workspace);
@@ -71,60 +48,25 @@ pub fn is_supertype_in(
     decision
 }
 
-// The workspace is not settled yet.
-fn decided(reading: Reading, sheet: &[u8], query: &[u8], workspace: &mut [u16]) -> Decision
-    ensures { Answers (told_reading reading) sheet.now (enough workspace.old) (path_query query.now) (supertype_question (told_reading reading) (schemas_in sheet.now)) (told_decision result) × (left sheet.now workspace.new ≡ left sheet.now workspace.old) }
-{
-    let asked = read_path(query);
-    let verdict = asked.verdict;
-    let path = asked.path;
-    match gathered(reading, sheet, verdict, workspace) {
-        Gathered::Refused(why) => Decision::Refused(why),
-        Gathered::Done(streams) => yes_or_no(owns(reading, sheet, query, path, streams, workspace)),
-    }
-}
-
-fn yes_or_no(yes: bool) -> Decision
-    ensures { told_decision result ≡ done yes }
-{
-    if yes {
-        return Decision::Yes;
-    }
-    Decision::No
-}
-
-// The list of the path that is asked for, in rows behind the records; `row` is what the row's reading said.
-fn list_asked(
+fn decided(
     reading: Reading,
     sheet: &[u8],
     query: &[u8],
-    row: Verdict,
     workspace: &mut [u16],
-) -> Valued
-    ensures { Lists (told_reading reading) sheet.now query.now workspace.old (told_verdict row) result workspace.new }
+) -> Result<bool, Refusal>
+    ensures { PromiseSupertype (told_reading reading) sheet.now query.now workspace.old result (left sheet.now workspace.new) }
 {
-    let asked = read_path(query);
-    let path = asked.path;
-    let whether = asked.verdict;
-    let verdict = in_turn(whether, row);
-    match gathered(reading, sheet, verdict, workspace) {
-        Gathered::Refused(why) => Valued::Refused(why),
-        Gathered::Done(streams) => list_at(reading, sheet, query, path, streams, workspace),
-    }
-}
-
-// The query's refusal before the row's.
-fn in_turn(query: Verdict, row: Verdict) -> Verdict
-    ensures { told_verdict result ≡ in_turn (told_verdict query) (told_verdict row) }
-{
-    if let Verdict::Refused(_) = query {
-        return query;
-    }
-    row
+    let (path, streams) = gathered(reading, sheet, read_path(query), workspace)?;
+    Ok(owns(reading, sheet, query, path, streams, workspace))
 }
 
 // The supertype's list, into a lent buffer.
-pub fn list(sheet: &[u8], query: &[u8], workspace: &mut [u16], out: &mut [u16]) -> Listed
+pub fn list(
+    sheet: &[u8],
+    query: &[u8],
+    workspace: &mut [u16],
+    out: &mut [u16],
+) -> Result<Instantiables, Refusal>
     ensures { PromiseList rust sheet.now query.now workspace.old out.old result workspace.new out.new }
 {
     list_in(Reading::Rust, sheet, query, workspace, out)
@@ -137,27 +79,26 @@ pub fn list_in(
     query: &[u8],
     workspace: &mut [u16],
     out: &mut [u16],
-) -> Listed
+) -> Result<Instantiables, Refusal>
     ensures { PromiseList (told_reading reading) sheet.now query.now workspace.old out.old result workspace.new out.new }
 {
-    let valued = list_asked(reading, sheet, query, Verdict::Done, workspace);
-    let answer = hand_list(valued, workspace, out);
+    let handed = list_handed(reading, sheet, query, workspace, out);
     settle(sheet, workspace);
-    answer
+    handed
 }
 
-fn hand_list(valued: Valued, workspace: &[u16], out: &mut [u16]) -> Listed
-    requires { StandsIf valued (drop 2048 workspace.now) }
-    ensures { rows.Answers (list_into (length out.old) (list_at valued (drop 2048 workspace.now))) out.old result out.new }
+fn list_handed(
+    reading: Reading,
+    sheet: &[u8],
+    query: &[u8],
+    workspace: &mut [u16],
+    out: &mut [u16],
+) -> Result<Instantiables, Refusal>
+    ensures { PromiseList (told_reading reading) sheet.now query.now workspace.old out.old result (left sheet.now workspace.new) out.new }
 {
-    match valued {
-        Valued::Refused(why) => Listed::Refused(why),
-        Valued::Is(list) => hand_out(
-            Listed::Rows(Instantiables { count: list.count }),
-            &workspace[RECORDS..],
-            out,
-        ),
-    }
+    let (path, streams) = gathered(reading, sheet, read_path(query), workspace)?;
+    let list = list_at(reading, sheet, query, path, streams, workspace);
+    hand_out(list, &workspace[RECORDS..], out)
 }
 
 // Number to row, into a lent buffer.
@@ -167,7 +108,7 @@ pub fn row_at(
     number: usize,
     workspace: &mut [u16],
     out: &mut [u16],
-) -> Listed
+) -> Result<Instantiables, Refusal>
     ensures { PromiseRow rust sheet.now query.now number workspace.old out.old result workspace.new out.new }
 {
     row_at_in(Reading::Rust, sheet, query, number, workspace, out)
@@ -181,38 +122,37 @@ pub fn row_at_in(
     number: usize,
     workspace: &mut [u16],
     out: &mut [u16],
-) -> Listed
+) -> Result<Instantiables, Refusal>
     ensures { PromiseRow (told_reading reading) sheet.now query.now number workspace.old out.old result workspace.new out.new }
 {
-    let valued = list_asked(reading, sheet, query, Verdict::Done, workspace);
-    let answer = hand_row(valued, number, workspace, out);
+    let handed = row_handed(reading, sheet, query, number, workspace, out);
     settle(sheet, workspace);
-    answer
+    handed
 }
 
-fn hand_row(valued: Valued, number: usize, workspace: &[u16], out: &mut [u16]) -> Listed
-    requires { StandsIf valued (drop 2048 workspace.now) }
-    ensures { rows.Answers (row_into (length out.old) number (list_at valued (drop 2048 workspace.now))) out.old result out.new }
+fn row_handed(
+    reading: Reading,
+    sheet: &[u8],
+    query: &[u8],
+    number: usize,
+    workspace: &mut [u16],
+    out: &mut [u16],
+) -> Result<Instantiables, Refusal>
+    ensures { PromiseRow (told_reading reading) sheet.now query.now number workspace.old out.old result (left sheet.now workspace.new) out.new }
 {
-    match valued {
-        Valued::Refused(why) => Listed::Refused(why),
-        Valued::Is(list) => hand_set(set_at(&workspace[RECORDS..], list.count, number), out),
-    }
-}
-
-// The set's row, if there is one.
-fn hand_set(made: Made, out: &mut [u16]) -> Listed
-    ensures { (o : Answer Part) → made ≡ made_of o → rows.Answers (set_into (length out.old) o) out.old result out.new }
-{
-    let verdict = made.verdict;
-    if let Making::Refused(why) = verdict {
-        return Listed::Refused(why);
-    }
-    hand_out_part(made.part, out)
+    let (path, streams) = gathered(reading, sheet, read_path(query), workspace)?;
+    let list = list_at(reading, sheet, query, path, streams, workspace)?;
+    let part = set_at(&workspace[RECORDS..], list.count, number)?;
+    hand_out_part(part, out)
 }
 
 // Row to number.
-pub fn number_of(sheet: &[u8], query: &[u8], row: &[u16], workspace: &mut [u16]) -> Numbered
+pub fn number_of(
+    sheet: &[u8],
+    query: &[u8],
+    row: &[u16],
+    workspace: &mut [u16],
+) -> Result<usize, Refusal>
     ensures { PromiseNumber rust sheet.now query.now row.now workspace.old result workspace.new }
 {
     number_of_in(Reading::Rust, sheet, query, row, workspace)
@@ -225,47 +165,51 @@ pub fn number_of_in(
     query: &[u8],
     row: &[u16],
     workspace: &mut [u16],
-) -> Numbered
+) -> Result<usize, Refusal>
     ensures { PromiseNumber (told_reading reading) sheet.now query.now row.now workspace.old result workspace.new }
 {
-    let asked = read_row(row);
-    let verdict = asked.verdict;
-    let valued = list_asked(reading, sheet, query, verdict, workspace);
-    let answer = place_in(valued, asked.part, workspace);
+    let number = numbered(reading, sheet, query, row, workspace);
     settle(sheet, workspace);
-    answer
+    number
+}
+
+fn numbered(
+    reading: Reading,
+    sheet: &[u8],
+    query: &[u8],
+    row: &[u16],
+    workspace: &mut [u16],
+) -> Result<usize, Refusal>
+    ensures { PromiseNumber (told_reading reading) sheet.now query.now row.now workspace.old result (left sheet.now workspace.new) }
+{
+    let asked = read_path_and_row(query, row);
+    let ((path, part), streams) = gathered(reading, sheet, asked, workspace)?;
+    let list = list_at(reading, sheet, query, path, streams, workspace)?;
+    number_in(&workspace[RECORDS..], list.count, part)
+}
+
+// What `number_of` is asked: the query's refusal comes before the row's.
+fn read_path_and_row(query: &[u8], row: &[u16]) -> Result<(Path, PartialComplexEntity), Refusal>
+    ensures says { told_by (told_both query.now) result ≡ path_and_part query.now row.now }
+    ensures within { IfOk result (λ asked. Spans query.now asked.0.scope.one × Spans query.now asked.0.item) }
+{
+    let path = read_path(query)?;
+    let part = read_row(row)?;
+    Ok((path, part))
 }
 
 // The row that is asked for; 15 at the first that is wrong.
-fn read_row(row: &[u16]) -> AskedRow
-    ensures { RowRead row.now result }
+fn read_row(row: &[u16]) -> Result<PartialComplexEntity, Refusal>
+    ensures { told_by names_of result ≡ mapped part (read_part row.now) }
 {
-    let read = read_operand(Operand::Part, row);
-    if let Read::Wrong(k) = read {
-        return AskedRow {
-            verdict: Verdict::Refused(Refusal::at(15, k)),
-            part: PartialComplexEntity::single(0),
-        };
-    }
-    AskedRow {
-        verdict: Verdict::Done,
-        part: PartialComplexEntity::read(row, 0),
-    }
-}
-
-// The set's place in the list.
-fn place_in(valued: Valued, part: PartialComplexEntity, workspace: &[u16]) -> Numbered
-    requires { StandsIf valued (drop 2048 workspace.now) }
-    ensures { told_number result ≡ place_in (names_of part) (list_at valued (drop 2048 workspace.now)) }
-{
-    match valued {
-        Valued::Refused(why) => Numbered::Refused(why),
-        Valued::Is(list) => number_in(&workspace[RECORDS..], list.count, part),
+    match Part::read(row) {
+        Ok(()) => Ok(PartialComplexEntity::read(row, 0)),
+        Err(wrong) => Err(Refusal::at(Reason::Malformed, wrong)),
     }
 }
 
 // The k-th supertype in order of first entry, by its declaration's number.
-pub fn supertype_at(sheet: &[u8], number: usize, workspace: &mut [u16]) -> Found
+pub fn supertype_at(sheet: &[u8], number: usize, workspace: &mut [u16]) -> Result<u16, Refusal>
     ensures { PromiseKth rust sheet.now number workspace.old result workspace.new }
 {
     supertype_at_in(Reading::Rust, sheet, number, workspace)
@@ -277,7 +221,7 @@ pub fn supertype_at_in(
     sheet: &[u8],
     number: usize,
     workspace: &mut [u16],
-) -> Found
+) -> Result<u16, Refusal>
     ensures { PromiseKth (told_reading reading) sheet.now number workspace.old result workspace.new }
 {
     let found = counted(reading, sheet, number, workspace);
@@ -285,12 +229,14 @@ pub fn supertype_at_in(
     found
 }
 
-// The workspace is not settled yet.
-fn counted(reading: Reading, sheet: &[u8], number: usize, workspace: &mut [u16]) -> Found
-    ensures { Answers (told_reading reading) sheet.now (enough workspace.old) (done number) (ask_supertype (told_reading reading) (schemas_in sheet.now)) (told_found result) × (left sheet.now workspace.new ≡ left sheet.now workspace.old) }
+fn counted(
+    reading: Reading,
+    sheet: &[u8],
+    number: usize,
+    workspace: &mut [u16],
+) -> Result<u16, Refusal>
+    ensures { PromiseKth (told_reading reading) sheet.now number workspace.old result (left sheet.now workspace.new) }
 {
-    match gathered(reading, sheet, Verdict::Done, workspace) {
-        Gathered::Refused(why) => Found::Refused(why),
-        Gathered::Done(streams) => count_to(streams, number, workspace),
-    }
+    let (number, streams) = gathered(reading, sheet, Ok(number), workspace)?;
+    count_to(streams, number, workspace)
 }

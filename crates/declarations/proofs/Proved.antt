@@ -7,17 +7,13 @@ use Prim.Native.Nat.{ℕ}
 use native.Mathlib.Omega.{arith}
 use Rattle.complex_entity.specs.MeaningRising.{◌∈◌}
 use Rattle.complex_entity.specs.MeaningRising.◌∈◌.{here, there}
-use Rattle.refusal.proofs.Same.{same_refusal}
 use Rattle.grammar.specs.MeaningReading.{Reading}
 use Rattle.grammar.proofs.Choosing.{clash}
 use Rattle.schemas.specs.MeaningSchemas.{Schema}
 use Rattle.scope.specs.MeaningNames.{same_bytes, same_name}
 use Rattle.scope.specs.MeaningScope.{Scope, steps_equal, same_scope, same_path}
 use Rattle.declarations.specs.MeaningNamespace.{Declaration, scope_in, item_of, path_in, declared_by, numbered, Entry, entries_from, all_of, declarations, first, or, last, answered, declaration_for, get_of, items_of, seen, upwards, climb, resolved, resolve_of}
-use Rattle.declarations.specs.Told.{told_found}
 use Rattle.declarations.specs.Claims.{NumbersInOrder, ResolvedDeclared, ResolvedPath, GetLowest, GetFinds, GetApart, GetResolves, Doubles}
-use Rattle.declarations.specs.declared.Found.{Found}
-use Rattle.declarations.specs.declared.Found.TheVariants.{Number, Refused}
 use Rattle.declarations.proofs.Picking.{first_found, last_found, first_finds}
 use Rattle.declarations.proofs.Numbering.{number_is, at_number, same_number, in_entry, entry_scope, lowest}
 use Rattle.declarations.proofs.Schemas.{named_so}
@@ -104,12 +100,3 @@ get_resolves rd xs single sc w d e =
 pub doubles_hold : Doubles
 unfolding resolve_of get_of resolved declaration_for declarations all_of entries_from numbered declared_by path_in scope_in item_of first or last answered items_of seen upwards climb same_path same_scope steps_equal same_name same_bytes
 doubles_hold = refl
-
--- ---- different answers say different things
-
-pub found_once : (a b : Found) → told_found a ≡ told_found b → a ≡ b
-unfolding told_found
-found_once (Number k) (Number j) e = cc
-found_once (Number k) (Refused r) e = clash (cc)
-found_once (Refused r) (Number k) e = clash (cc)
-found_once (Refused r) (Refused q) e = ap Refused (same_refusal r q (cc) (cc))

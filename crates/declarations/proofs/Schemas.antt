@@ -9,6 +9,9 @@ use native.Mathlib.Numerals.{add-one}
 use borrow.Author.Tests.{ne_eqb, eqb-true, eqb-false}
 use lib.Dec.{eqb}
 use lib.ListN.{length, length-map}
+use Rattle.std.specs.Prelude as prelude
+use Rattle.std.specs.Prelude.{Some, None, Result, Ok, Err}
+use Rattle.std.specs.Result.{result_ok}
 use Rattle.complex_entity.specs.MeaningRising.{◌∈◌}
 use Rattle.complex_entity.specs.MeaningRising.◌∈◌.{here, there}
 use Rattle.grammar.specs.MeaningReading.{Reading}
@@ -18,12 +21,10 @@ use Rattle.schemas.specs.MeaningSchemas.{TypeDecl, Entity, Schema, name_of, type
 use Rattle.scope.specs.MeaningNames.{same_name}
 use Rattle.scope.specs.MeaningScope.{ScopeType, place_of, steps_equal, same_scope, same_path}
 use Rattle.lookup.specs.MirrorLookup.{its_name, itself, look_in}
-use Rattle.lookup.specs.declared.Sought.{Sought}
-use Rattle.lookup.specs.declared.Sought.TheVariants.{At, Past}
 use Rattle.lookup.proofs.Fields.{each_map, each_length}
 use Rattle.lookup.proofs.Few.{few}
 use Rattle.declarations.specs.MeaningNamespace.{Named, a_type, an_entity, Declaration, scope_in, item_of, path_in, declared_by, numbered, first, or}
-use Rattle.declarations.specs.MirrorNamespace.{word_of, schema_scope, path_to, types_in, size_in, type_in, entity_in, or_sought, in_schema, in_kind}
+use Rattle.declarations.specs.MirrorNamespace.{word_of, schema_scope, path_to, sought_of, types_in, size_in, type_in, entity_in, or_sought, in_schema, in_kind}
 use Rattle.declarations.proofs.Picking.{or_none, first_append}
 use Rattle.declarations.proofs.Numbering.{numbered_append, length_declared}
 
@@ -62,19 +63,18 @@ size_few s at e = few s at e 0x20 0x30
 
 -- ---- a search by name and one by a test on declarations
 
--- a number without the count beside it
-abbrev pub found : Sought → Option ℕ
-found (At k) = some k
-found (Past k) = none
+-- the first of two numbers
+abbrev either_number : prelude.Option ℕ → prelude.Option ℕ → prelude.Option ℕ
+either_number None o = o
+either_number (Some k) o = Some k
 
-abbrev pub number_of : Option Declaration → Option ℕ
-number_of none = none
-number_of (some d) = some d.number
-
-number_or : (a b : Option Declaration) → number_of (or a b) ≡ or (number_of a) (number_of b)
-unfolding or
+number_or : (a b : Option Declaration) → sought_of (or a b) ≡ either_number (sought_of a) (sought_of b)
+unfolding or sought_of
 number_or none b = refl
 number_or (some d) b = refl
+
+number_none : (a : Option Declaration) → sought_of (or a none) ≡ sought_of a
+number_none a = ap sought_of (or_none a)
 
 abbrev pub declare : Schema → ℕ → Named → Declaration
 declare x n d = record { number = n; path = path_in x d; named = d }
@@ -82,19 +82,19 @@ declare x n d = record { number = n; path = path_in x d; named = d }
 module _ (rd : Reading) (w : List ℕ) where
   -- where the test is that the name is equal
   looked : {A : Type 0} (t : Declaration → Bool) (x : Schema) (mk : A → Named) (name : A → Name) → ((n : ℕ) (a : A) → t (declare x n (mk a)) ≡ same_name rd (name a).bytes w)
-      → (l : List A) (n : ℕ) → number_of (first t (numbered x n (map mk l))) ≡ found (look_in rd w (map name l) n)
-  unfolding first numbered look_in
+      → (l : List A) (n : ℕ) → sought_of (first t (numbered x n (map mk l))) ≡ result_ok (look_in rd w (map name l) n)
+  unfolding first numbered look_in sought_of
   looked t x mk name h [] n = refl
   looked t x mk name h (a ∷ l) n = rw (h n a, add-one n) (by (same_name rd (name a).bytes w) (looked t x mk name h l (suc n)))
     where
-      by : (b : Bool) → number_of (first t (numbered x (suc n) (map mk l))) ≡ found (look_in rd w (map name l) (suc n)) → number_of (cond b (some (declare x n (mk a))) (first t (numbered x (suc n) (map mk l)))) ≡ found (cond b (At n) (look_in rd w (map name l) (suc n)))
+      by : (b : Bool) → sought_of (first t (numbered x (suc n) (map mk l))) ≡ result_ok (look_in rd w (map name l) (suc n)) → sought_of (cond b (some (declare x n (mk a))) (first t (numbered x (suc n) (map mk l)))) ≡ result_ok (cond b (Ok n) (look_in rd w (map name l) (suc n)))
       by true e = refl
       by false e = e
 
-found_or : (a b : Sought) → found (or_sought a b) ≡ or (found a) (found b)
-unfolding or_sought or
-found_or (At k) b = refl
-found_or (Past k) b = refl
+found_or : (a b : Result ℕ ℕ) → result_ok (or_sought a b) ≡ either_number (result_ok a) (result_ok b)
+unfolding or_sought
+found_or (Ok k) b = refl
+found_or (Err k) b = refl
 
 -- what is found there is one of those
 pub found_there : {A : Type 0} (mk : A → Named) (x : Schema) (n : ℕ) (l : List A) (d : Declaration) → d ∈ numbered x n (map mk l) → (a : A) × (d.path ≡ path_in x (mk a))
@@ -140,22 +140,22 @@ module _ (rd : Reading) (w : List ℕ) where
     abbrev that : Schema
     that = schema_of p g
 
-    pub types_means : number_of (among_types named_so that n) ≡ found (type_in rd w g n)
+    pub types_means : sought_of (among_types named_so that n) ≡ result_ok (type_in rd w g n)
     unfolding path_in item_of type_in
-    types_means = looked rd w named_so that a_type type_name (λ m a. refl) that.types n ∙ ap (λ (l : List Name). found (look_in rd w l n)) (type_names p g)
+    types_means = looked rd w named_so that a_type type_name (λ m a. refl) that.types n ∙ ap (λ (l : List Name). result_ok (look_in rd w l n)) (type_names p g)
 
-    pub entities_means : number_of (among_entities named_so that n) ≡ found (entity_in rd w g n)
+    pub entities_means : sought_of (among_entities named_so that n) ≡ result_ok (entity_in rd w g n)
     unfolding path_in item_of entity_in types_in
     entities_means =
         looked rd w named_so that an_entity entity_name (λ m a. refl) that.entities (n + length that.types)
-        ∙ ap₂ (λ (l : List Name) (k : ℕ). found (look_in rd w l (n + k))) (entity_names p g) (many_types p g)
+        ∙ ap₂ (λ (l : List Name) (k : ℕ). result_ok (look_in rd w l (n + k))) (entity_names p g) (many_types p g)
 
-    pub in_schema_means : found (in_schema rd w g n) ≡ number_of (first named_so (numbered that n (declared_by that)))
+    pub in_schema_means : result_ok (in_schema rd w g n) ≡ sought_of (first named_so (numbered that n (declared_by that)))
     unfolding in_schema
     in_schema_means =
         found_or (type_in rd w g n) (entity_in rd w g n)
-        ∙ ap₂ (λ (a b : Option ℕ). or a b) (sym types_means) (sym entities_means)
-        ∙ sym (ap number_of (halves named_so that n) ∙ number_or (among_types named_so that n) (among_entities named_so that n))
+        ∙ ap₂ either_number (sym types_means) (sym entities_means)
+        ∙ sym (ap sought_of (halves named_so that n) ∙ number_or (among_types named_so that n) (among_entities named_so that n))
 
 -- ---- the first equal path
 
@@ -195,26 +195,26 @@ module _ (rd : Reading) (sc : List ℕ) (k : ScopeType) (w : List ℕ) where
     unfolding item_of
     no_entities d = map_none led_to an_entity this (λ m a. leads this (an_entity a) ∙ rw (ne_eqb 0 (place_of k) (λ e. d (sym e)), and-false (same_name rd this.name.bytes sc)) refl) (n + length this.types) this.entities
 
-    some_types : place_of k ≡ 9 → number_of (among_types led_to this n) ≡ found (type_in rd w g n)
+    some_types : place_of k ≡ 9 → sought_of (among_types led_to this n) ≡ result_ok (type_in rd w g n)
     unfolding item_of type_in
-    some_types e = looked rd w led_to this a_type type_name (λ m a. leads this (a_type a) ∙ rw (this_same, e) refl) this.types n ∙ ap (λ (l : List Name). found (look_in rd w l n)) (type_names p g)
+    some_types e = looked rd w led_to this a_type type_name (λ m a. leads this (a_type a) ∙ rw (this_same, e) refl) this.types n ∙ ap (λ (l : List Name). result_ok (look_in rd w l n)) (type_names p g)
 
-    some_entities : place_of k ≡ 0 → number_of (among_entities led_to this n) ≡ found (entity_in rd w g n)
+    some_entities : place_of k ≡ 0 → sought_of (among_entities led_to this n) ≡ result_ok (entity_in rd w g n)
     unfolding item_of entity_in types_in
     some_entities e =
         looked rd w led_to this an_entity entity_name (λ m a. leads this (an_entity a) ∙ rw (this_same, e) refl) this.entities (n + length this.types)
-        ∙ ap₂ (λ (l : List Name) (k : ℕ). found (look_in rd w l (n + k))) (entity_names p g) (many_types p g)
+        ∙ ap₂ (λ (l : List Name) (k : ℕ). result_ok (look_in rd w l (n + k))) (entity_names p g) (many_types p g)
 
-    pub in_kind_means : found (in_kind rd k w g n) ≡ number_of (first led_to (numbered this n (declared_by this)))
-    unfolding in_kind or
-    in_kind_means = nine (eqb (place_of k) 9) refl ∙ sym (ap number_of (halves led_to this n))
+    pub in_kind_means : result_ok (in_kind rd k w g n) ≡ sought_of (first led_to (numbered this n (declared_by this)))
+    unfolding in_kind or sought_of
+    in_kind_means = nine (eqb (place_of k) 9) refl ∙ sym (ap sought_of (halves led_to this n))
       where
-        nought : (c : Bool) → eqb (place_of k) 0 ≡ c → (place_of k ≡ 9 → ⊥) → found (cond c (entity_in rd w g n) (Past 0)) ≡ number_of (or (among_types led_to this n) (among_entities led_to this n))
+        nought : (c : Bool) → eqb (place_of k) 0 ≡ c → (place_of k ≡ 9 → ⊥) → result_ok (cond c (entity_in rd w g n) (Err 0)) ≡ sought_of (or (among_types led_to this n) (among_entities led_to this n))
         nought true e d = sym (rw (no_types d) (some_entities (eqb-true (place_of k) 0 e)))
         nought false e d = sym (rw (no_types d, no_entities (eqb-false (place_of k) 0 e)) refl)
 
-        nine : (c : Bool) → eqb (place_of k) 9 ≡ c → found (cond c (type_in rd w g n) (cond (eqb (place_of k) 0) (entity_in rd w g n) (Past 0))) ≡ number_of (or (among_types led_to this n) (among_entities led_to this n))
+        nine : (c : Bool) → eqb (place_of k) 9 ≡ c → result_ok (cond c (type_in rd w g n) (cond (eqb (place_of k) 0) (entity_in rd w g n) (Err 0))) ≡ sought_of (or (among_types led_to this n) (among_entities led_to this n))
         nine true e =
             let z = eqb-true (place_of k) 9 e in
-            sym (rw (no_entities (λ u. omega (arith, z, u))) (number_or (among_types led_to this n) none ∙ or_none (number_of (among_types led_to this n)) ∙ some_types z))
+            sym (rw (no_entities (λ u. omega (arith, z, u))) (number_none (among_types led_to this n) ∙ some_types z))
         nine false e = nought (eqb (place_of k) 0) refl (eqb-false (place_of k) 9 e)

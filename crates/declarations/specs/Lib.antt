@@ -1,6 +1,5 @@
 -- Meanings, then claims, then mirrors.
 pub mod MeaningNamespace
 pub mod MeaningExamples
-pub mod Told
 pub mod Claims
 pub mod MirrorNamespace

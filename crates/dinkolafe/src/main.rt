@@ -21,35 +21,17 @@ const OUT: usize = 16384;
 // Where the names of 256 declarations stand, four numbers each.
 const NAMES: usize = 1024;
 
-// Reads once; answers how many bytes came. Where reading fails the rest counts as full, so that the sheet is refused.
-fn read_once<R: Read>(input: &mut R, rest: &mut [u8]) -> usize
-    ensures { result ≤ length rest.new }
-{
-    match input.read(rest) {
-        Ok(count) => count,
-        Err(_) => rest.len(),
-    }
-}
-
-// Reads more behind the bytes that are held; answers how many there are then.
-fn read_more<R: Read>(input: &mut R, sheet: &mut [u8], held: usize) -> usize
-    requires { held ≤ length sheet.old }
-    ensures { (held ≤ result) × (result ≤ length sheet.new) }
-{
-    held + read_once(input, &mut sheet[held..])
-}
-
-// Reads to the end of the input, or until the buffer is full; answers how many bytes there are.
+// Reads to the end of the input, or until the buffer is full; answers how many bytes there are. Where reading fails the buffer counts as full, so that the sheet is refused. No read_to_end, which needs memory that grows.
 fn read_sheet<R: Read>(input: &mut R, sheet: &mut [u8]) -> usize
     ensures { result ≤ length sheet.new }
 {
     let mut held = 0;
     while held < sheet.len() {
-        let end = read_more(input, sheet, held);
-        if end <= held {
-            return held;
+        match input.read(&mut sheet[held..]) {
+            Ok(0) => return held,
+            Ok(count) => held += count,
+            Err(_) => return sheet.len(),
         }
-        held = end;
     }
     held
 }
@@ -63,7 +45,7 @@ fn written(output: &impl Print, out: &[u8], end: usize) -> io::Result<usize>
     if LINE <= out.len() - end {
         return Ok(end);
     }
-    output.write_all(&out[0..end])?;
+    output.write_all(&out[..end])?;
     Ok(0)
 }
 
@@ -82,15 +64,11 @@ fn print_lines(
 {
     let mut cursor = first;
     let mut at = 0;
-    loop {
-        let line = next_line(reading, sheet, names, workspace, cursor, &mut out[at..]);
-        let stop = line.stop;
-        if stop == 0 {
-            return output.write_all(&out[0..at]);
-        }
+    while let Some(line) = next_line(reading, sheet, names, workspace, cursor, &mut out[at..]) {
         cursor = line.next;
-        at = written(output, out, at + stop)?;
+        at = written(output, out, at + line.stop)?;
     }
+    output.write_all(&out[..at])
 }
 
 // The listing of the sheet, in memory that stands here.
@@ -113,5 +91,5 @@ fn print_listing(output: &impl Print, reading: Reading, sheet: &[u8]) -> io::Res
 fn main(rt: HostRuntime) -> io::Result<()> {
     let mut sheet = [0u8; BYTES];
     let held = read_sheet(&mut rt.stdin(), &mut sheet);
-    print_listing(&rt, Reading::Rust, &sheet[0..held])
+    print_listing(&rt, Reading::Rust, &sheet[..held])
 }

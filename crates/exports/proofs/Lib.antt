@@ -1,5 +1,3 @@
--- No refusal has the number 0; laws of the names; the claims.
-pub mod Marking
-pub mod Keeping
+-- The laws that the proofs of this crate cite.
 pub mod Naming
 pub mod Proved

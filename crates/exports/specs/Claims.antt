@@ -5,8 +5,6 @@ use Rattle.grammar.specs.MeaningReading.Reading.{rust}
 use Rattle.sheet.specs.MeaningName.{Name}
 use Rattle.scope.specs.MeaningScope.{Path}
 use Rattle.instantiables.specs.Told.{told_listed}
-use Rattle.expression.specs.Told.{told_number}
-use Rattle.declarations.specs.Told.{told_found}
 use Rattle.operators.specs.MeaningOperators.{Operator, Several}
 use Rattle.operands.specs.MeaningOperands.{Operand}
 use Rattle.algebra.specs.Promises.{PromiseNew, PromiseSingle, PromiseCompare, PromiseTwo, PromiseSeveral}
@@ -15,7 +13,7 @@ use Rattle.query.specs.Promises.{PromiseOrder}
 use Rattle.namespace.specs.Promises.{PromiseResolve, PromiseGet, PromisePath}
 use Rattle.constraints.specs.Promises.{PromiseSupertype, PromiseList, PromiseNumber, PromiseRow, PromiseKth}
 use Rattle.type_ref.specs.Promises.{PromiseType}
-use Rattle.codes.specs.Told.{judged, clear, decided, compared_parts, compared_scopes, typed}
+use Rattle.codes.specs.Told.{numbered, judged, decided, compared_parts, compared_scopes, typed}
 use Rattle.exports.specs.Promises.{Exported, ExportedName}
 
 -- one call allows one outcome: number, value, and the end state of what is lent besides
@@ -35,14 +33,14 @@ pub record ExportedOnce : Type 0 where
   pub several : (op : Several) (counts rows out : List ℕ) → Once told_listed (PromiseSeveral op counts rows out)
   pub verdict : (s : List ℕ) → OnceAlone judged (PromiseVerdict rust s)
   pub order : (left right : List ℕ) → OnceAlone compared_scopes (PromiseOrder rust left right)
-  pub resolve : (s q : List ℕ) → OnceAlone told_found (PromiseResolve rust s q)
-  pub get : (s q : List ℕ) → OnceAlone told_found (PromiseGet rust s q)
-  pub as_path : (s : List ℕ) (index : ℕ) → OnceAlone clear (PromisePath rust s index)
+  pub resolve : (s q : List ℕ) → OnceAlone numbered (PromiseResolve rust s q)
+  pub get : (s q : List ℕ) → OnceAlone numbered (PromiseGet rust s q)
+  pub as_path : (s : List ℕ) (index : ℕ) → OnceAlone judged (PromisePath rust s index)
   pub is_supertype : (s q work : List ℕ) → Once decided (PromiseSupertype rust s q work)
   pub list : (s q work out : List ℕ) → Once told_listed (λ a (x : List ℕ × List ℕ). PromiseList rust s q work out a x.0 x.1)
-  pub number_of : (s q row work : List ℕ) → Once told_number (PromiseNumber rust s q row work)
+  pub number_of : (s q row work : List ℕ) → Once numbered (PromiseNumber rust s q row work)
   pub row_at : (s q : List ℕ) (number : ℕ) (work out : List ℕ) → Once told_listed (λ a (x : List ℕ × List ℕ). PromiseRow rust s q number work out a x.0 x.1)
-  pub supertype_at : (s : List ℕ) (number : ℕ) (work : List ℕ) → Once told_found (PromiseKth rust s number work)
+  pub supertype_at : (s : List ℕ) (number : ℕ) (work : List ℕ) → Once numbered (PromiseKth rust s number work)
   pub from_path : (s q work : List ℕ) → Once (typed q) (PromiseType rust s q work)
 
 -- of a name where it stands, not its bytes alone

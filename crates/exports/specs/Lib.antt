@@ -1,4 +1,3 @@
--- What the code carries, then promises and claims.
-pub mod MirrorNames
+-- Promises, then claims.
 pub mod Promises
 pub mod Claims

@@ -9,7 +9,7 @@ use Rattle.namespace.specs.Promises.{Asked, PromisePart}
 use Rattle.codes.specs.MeaningCode.{read}
 
 -- what C reads is what an answer tells that keeps the question's own promise
-unfoldable pub Exported : {A : Type 0} → (told : A → Answer ℕ) → (Promised : A → Type 0) → (number value : ℕ) → Type 0
+abbrev pub Exported : {A : Type 0} → (told : A → Answer ℕ) → (Promised : A → Type 0) → (number value : ℕ) → Type 0
 Exported {A} told Promised number value = (a : A) × Promised a × (told a ≡ read number value)
 
 -- the place after a name; 0 where it is refused

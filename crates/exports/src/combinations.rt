@@ -1,14 +1,12 @@
 // The questions that borrow a workspace: about supertypes, and `from_path`.
 ghost use Rattle.grammar.specs.MeaningReading.Reading.{rust};
 ghost use Rattle.instantiables.specs.Told.{told_listed};
-ghost use Rattle.expression.specs.Told.{told_number};
-ghost use Rattle.declarations.specs.Told.{told_found};
 ghost use Rattle.constraints.specs.Promises.{PromiseSupertype, PromiseList, PromiseNumber, PromiseRow, PromiseKth};
 ghost use Rattle.type_ref.specs.Promises.{PromiseType};
-ghost use Rattle.codes.specs.Told.{decided, typed};
+ghost use Rattle.codes.specs.Told.{numbered, decided, typed};
 ghost use Rattle.exports.specs.Promises.{Exported};
 
-use codes::{of_decision, of_found, of_listed, of_numbered, of_type};
+use codes::{hand_out, kind_of};
 
 #[unsafe(no_mangle)]
 pub extern "C" fn dinkolafe_is_supertype(
@@ -19,9 +17,7 @@ pub extern "C" fn dinkolafe_is_supertype(
 ) -> u8
     ensures { Exported decided (λ a. PromiseSupertype rust sheet.now query.now workspace.old a workspace.new) result value.new }
 {
-    let code = of_decision(constraints::is_supertype(sheet, query, workspace));
-    *value = code.value;
-    code.number
+    hand_out(constraints::is_supertype(sheet, query, workspace), value)
 }
 
 #[unsafe(no_mangle)]
@@ -34,9 +30,7 @@ pub extern "C" fn dinkolafe_list(
 ) -> u8
     ensures { Exported told_listed (λ a. PromiseList rust sheet.now query.now workspace.old out.old a workspace.new out.new) result value.new }
 {
-    let code = of_listed(constraints::list(sheet, query, workspace, out));
-    *value = code.value;
-    code.number
+    hand_out(constraints::list(sheet, query, workspace, out), value)
 }
 
 #[unsafe(no_mangle)]
@@ -47,11 +41,9 @@ pub extern "C" fn dinkolafe_number_of(
     workspace: &mut [u16],
     value: &mut u64,
 ) -> u8
-    ensures { Exported told_number (λ a. PromiseNumber rust sheet.now query.now row.now workspace.old a workspace.new) result value.new }
+    ensures { Exported numbered (λ a. PromiseNumber rust sheet.now query.now row.now workspace.old a workspace.new) result value.new }
 {
-    let code = of_numbered(constraints::number_of(sheet, query, row, workspace));
-    *value = code.value;
-    code.number
+    hand_out(constraints::number_of(sheet, query, row, workspace), value)
 }
 
 #[unsafe(no_mangle)]
@@ -65,9 +57,10 @@ pub extern "C" fn dinkolafe_row_at(
 ) -> u8
     ensures { Exported told_listed (λ a. PromiseRow rust sheet.now query.now number workspace.old out.old a workspace.new out.new) result value.new }
 {
-    let code = of_listed(constraints::row_at(sheet, query, number, workspace, out));
-    *value = code.value;
-    code.number
+    hand_out(
+        constraints::row_at(sheet, query, number, workspace, out),
+        value,
+    )
 }
 
 #[unsafe(no_mangle)]
@@ -77,11 +70,9 @@ pub extern "C" fn dinkolafe_supertype_at(
     workspace: &mut [u16],
     value: &mut u64,
 ) -> u8
-    ensures { Exported told_found (λ a. PromiseKth rust sheet.now number workspace.old a workspace.new) result value.new }
+    ensures { Exported numbered (λ a. PromiseKth rust sheet.now number workspace.old a workspace.new) result value.new }
 {
-    let code = of_found(constraints::supertype_at(sheet, number, workspace));
-    *value = code.value;
-    code.number
+    hand_out(constraints::supertype_at(sheet, number, workspace), value)
 }
 
 #[unsafe(no_mangle)]
@@ -93,7 +84,5 @@ pub extern "C" fn dinkolafe_from_path(
 ) -> u8
     ensures { Exported (typed query.now) (λ a. PromiseType rust sheet.now query.now workspace.old a workspace.new) result value.new }
 {
-    let code = of_type(query, type_ref::from_path(sheet, query, workspace));
-    *value = code.value;
-    code.number
+    hand_out(kind_of(type_ref::from_path(sheet, query, workspace)), value)
 }

@@ -6,7 +6,7 @@ ghost use Rattle.algebra.specs.Promises.{PromiseNew, PromiseSingle, PromiseCompa
 ghost use Rattle.codes.specs.Told.{compared_parts};
 ghost use Rattle.exports.specs.Promises.{Exported};
 
-use codes::{of_listed, of_parts};
+use codes::hand_out;
 
 // ---- parts
 
@@ -14,27 +14,21 @@ use codes::{of_listed, of_parts};
 pub extern "C" fn dinkolafe_new(indices: &[u16], out: &mut [u16], value: &mut u64) -> u8
     ensures { Exported told_listed (λ a. PromiseNew indices.now out.old a out.new) result value.new }
 {
-    let code = of_listed(algebra::new(indices, out));
-    *value = code.value;
-    code.number
+    hand_out(algebra::new(indices, out), value)
 }
 
 #[unsafe(no_mangle)]
 pub extern "C" fn dinkolafe_single(index: u16, out: &mut [u16], value: &mut u64) -> u8
     ensures { Exported told_listed (λ a. PromiseSingle index out.old a out.new) result value.new }
 {
-    let code = of_listed(algebra::single(index, out));
-    *value = code.value;
-    code.number
+    hand_out(algebra::single(index, out), value)
 }
 
 #[unsafe(no_mangle)]
 pub extern "C" fn dinkolafe_compare(left: &[u16], right: &[u16], value: &mut u64) -> u8
     ensures { Exported compared_parts (λ a. PromiseCompare left.now right.now a) result value.new }
 {
-    let code = of_parts(algebra::compare(left, right));
-    *value = code.value;
-    code.number
+    hand_out(algebra::compare(left, right), value)
 }
 
 #[unsafe(no_mangle)]
@@ -46,9 +40,7 @@ pub extern "C" fn dinkolafe_join(
 ) -> u8
     ensures { Exported told_listed (λ a. PromiseTwo times a_part a_part left.now right.now out.old a out.new) result value.new }
 {
-    let code = of_listed(algebra::join(left, right, out));
-    *value = code.value;
-    code.number
+    hand_out(algebra::join(left, right, out), value)
 }
 
 // ---- lists
@@ -57,9 +49,7 @@ pub extern "C" fn dinkolafe_join(
 pub extern "C" fn dinkolafe_add(left: &[u16], right: &[u16], out: &mut [u16], value: &mut u64) -> u8
     ensures { Exported told_listed (λ a. PromiseTwo plus a_list a_list left.now right.now out.old a out.new) result value.new }
 {
-    let code = of_listed(algebra::add(left, right, out));
-    *value = code.value;
-    code.number
+    hand_out(algebra::add(left, right, out), value)
 }
 
 #[unsafe(no_mangle)]
@@ -71,9 +61,7 @@ pub extern "C" fn dinkolafe_add_part(
 ) -> u8
     ensures { Exported told_listed (λ a. PromiseTwo plus a_list a_part left.now right.now out.old a out.new) result value.new }
 {
-    let code = of_listed(algebra::add_part(left, right, out));
-    *value = code.value;
-    code.number
+    hand_out(algebra::add_part(left, right, out), value)
 }
 
 #[unsafe(no_mangle)]
@@ -85,9 +73,7 @@ pub extern "C" fn dinkolafe_part_add(
 ) -> u8
     ensures { Exported told_listed (λ a. PromiseTwo plus a_part a_list left.now right.now out.old a out.new) result value.new }
 {
-    let code = of_listed(algebra::part_add(left, right, out));
-    *value = code.value;
-    code.number
+    hand_out(algebra::part_add(left, right, out), value)
 }
 
 #[unsafe(no_mangle)]
@@ -99,9 +85,7 @@ pub extern "C" fn dinkolafe_bitand(
 ) -> u8
     ensures { Exported told_listed (λ a. PromiseTwo times a_list a_list left.now right.now out.old a out.new) result value.new }
 {
-    let code = of_listed(algebra::bitand(left, right, out));
-    *value = code.value;
-    code.number
+    hand_out(algebra::bitand(left, right, out), value)
 }
 
 #[unsafe(no_mangle)]
@@ -113,9 +97,7 @@ pub extern "C" fn dinkolafe_bitand_part(
 ) -> u8
     ensures { Exported told_listed (λ a. PromiseTwo times a_list a_part left.now right.now out.old a out.new) result value.new }
 {
-    let code = of_listed(algebra::bitand_part(left, right, out));
-    *value = code.value;
-    code.number
+    hand_out(algebra::bitand_part(left, right, out), value)
 }
 
 #[unsafe(no_mangle)]
@@ -127,18 +109,14 @@ pub extern "C" fn dinkolafe_part_bitand(
 ) -> u8
     ensures { Exported told_listed (λ a. PromiseTwo times a_part a_list left.now right.now out.old a out.new) result value.new }
 {
-    let code = of_listed(algebra::part_bitand(left, right, out));
-    *value = code.value;
-    code.number
+    hand_out(algebra::part_bitand(left, right, out), value)
 }
 
 #[unsafe(no_mangle)]
 pub extern "C" fn dinkolafe_sub(left: &[u16], right: &[u16], out: &mut [u16], value: &mut u64) -> u8
     ensures { Exported told_listed (λ a. PromiseTwo minus a_list a_list left.now right.now out.old a out.new) result value.new }
 {
-    let code = of_listed(algebra::sub(left, right, out));
-    *value = code.value;
-    code.number
+    hand_out(algebra::sub(left, right, out), value)
 }
 
 #[unsafe(no_mangle)]
@@ -150,18 +128,14 @@ pub extern "C" fn dinkolafe_sub_part(
 ) -> u8
     ensures { Exported told_listed (λ a. PromiseTwo minus a_list a_part left.now right.now out.old a out.new) result value.new }
 {
-    let code = of_listed(algebra::sub_part(left, right, out));
-    *value = code.value;
-    code.number
+    hand_out(algebra::sub_part(left, right, out), value)
 }
 
 #[unsafe(no_mangle)]
 pub extern "C" fn dinkolafe_div(left: &[u16], right: &[u16], out: &mut [u16], value: &mut u64) -> u8
     ensures { Exported told_listed (λ a. PromiseTwo over a_list a_list left.now right.now out.old a out.new) result value.new }
 {
-    let code = of_listed(algebra::div(left, right, out));
-    *value = code.value;
-    code.number
+    hand_out(algebra::div(left, right, out), value)
 }
 
 #[unsafe(no_mangle)]
@@ -173,9 +147,7 @@ pub extern "C" fn dinkolafe_div_part(
 ) -> u8
     ensures { Exported told_listed (λ a. PromiseTwo over a_list a_part left.now right.now out.old a out.new) result value.new }
 {
-    let code = of_listed(algebra::div_part(left, right, out));
-    *value = code.value;
-    code.number
+    hand_out(algebra::div_part(left, right, out), value)
 }
 
 // ---- several lists: their rows one after another, and how many rows each has
@@ -189,9 +161,7 @@ pub extern "C" fn dinkolafe_oneof(
 ) -> u8
     ensures { Exported told_listed (λ a. PromiseSeveral one_of counts.now rows.now out.old a out.new) result value.new }
 {
-    let code = of_listed(algebra::oneof(counts, rows, out));
-    *value = code.value;
-    code.number
+    hand_out(algebra::oneof(counts, rows, out), value)
 }
 
 #[unsafe(no_mangle)]
@@ -203,9 +173,7 @@ pub extern "C" fn dinkolafe_and(
 ) -> u8
     ensures { Exported told_listed (λ a. PromiseSeveral every_of counts.now rows.now out.old a out.new) result value.new }
 {
-    let code = of_listed(algebra::and(counts, rows, out));
-    *value = code.value;
-    code.number
+    hand_out(algebra::and(counts, rows, out), value)
 }
 
 #[unsafe(no_mangle)]
@@ -217,7 +185,5 @@ pub extern "C" fn dinkolafe_andor(
 ) -> u8
     ensures { Exported told_listed (λ a. PromiseSeveral some_of counts.now rows.now out.old a out.new) result value.new }
 {
-    let code = of_listed(algebra::andor(counts, rows, out));
-    *value = code.value;
-    code.number
+    hand_out(algebra::andor(counts, rows, out), value)
 }

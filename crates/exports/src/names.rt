@@ -1,49 +1,30 @@
 // `schema_name` and `item_name`: C gets the start and the stop of the part of the sheet.
-ghost use Rattle.std.specs.Prelude.{◌≡◌};
 ghost use Rattle.declarations.specs.MeaningNamespace.{schema_name, item_name};
-ghost use Rattle.exports.specs.MirrorNames.{name_code};
+ghost use Rattle.namespace.specs.MirrorNames.{name_within};
 ghost use Rattle.exports.specs.Promises.{ExportedName};
 
-use namespace::{NamePlace, PathName, name_place};
+use namespace::{PathName, name_place};
 use sheet::Reading;
 
-// A refusal's number and place, and 0; or 0, and where the name stands.
-#[derive(Clone, Copy)]
-pub struct NameCode {
-    pub number: u8,
-    pub start: u64,
-    pub stop: u64,
-}
-
-fn code_of(place: NamePlace) -> NameCode
-    ensures { result ≡ name_code place }
+// Writes where the name stands, or a refusal's place and 0; answers 0, or the refusal's number.
+fn hand_out_name(sheet: &[u8], index: u16, name: PathName, start: &mut u64, stop: &mut u64) -> u8
+    ensures { ExportedName (name_within name) sheet.now index result start.new stop.new }
 {
-    match place {
-        NamePlace::At(name) => NameCode {
-            number: 0,
-            start: name.start as u64,
-            stop: name.stop as u64,
-        },
-        NamePlace::Refused(why) => NameCode {
-            number: why.number,
-            start: why.place as u64,
-            stop: 0,
-        },
+    match name_place(Reading::Rust, sheet, index, name) {
+        Ok(place) => {
+            *start = place.start as u64;
+            *stop = place.stop as u64;
+            0
+        }
+        Err(why) => {
+            *start = why.place as u64;
+            *stop = 0;
+            why.reason.into()
+        }
     }
 }
 
-fn schema_code(sheet: &[u8], index: u16) -> NameCode
-    ensures { ExportedName schema_name sheet.now index result.number result.start result.stop }
-{
-    code_of(name_place(Reading::Rust, sheet, index, PathName::Schema))
-}
-
-fn item_code(sheet: &[u8], index: u16) -> NameCode
-    ensures { ExportedName item_name sheet.now index result.number result.start result.stop }
-{
-    code_of(name_place(Reading::Rust, sheet, index, PathName::Item))
-}
-
+#[tactic(auto, unfolding(namespace::specs::MirrorNames::name_within))]
 #[unsafe(no_mangle)]
 pub extern "C" fn dinkolafe_schema_name(
     sheet: &[u8],
@@ -53,12 +34,10 @@ pub extern "C" fn dinkolafe_schema_name(
 ) -> u8
     ensures { ExportedName schema_name sheet.now index result start.new stop.new }
 {
-    let code = schema_code(sheet, index);
-    *start = code.start;
-    *stop = code.stop;
-    code.number
+    hand_out_name(sheet, index, PathName::Schema, start, stop)
 }
 
+#[tactic(auto, unfolding(namespace::specs::MirrorNames::name_within))]
 #[unsafe(no_mangle)]
 pub extern "C" fn dinkolafe_item_name(
     sheet: &[u8],
@@ -68,8 +47,5 @@ pub extern "C" fn dinkolafe_item_name(
 ) -> u8
     ensures { ExportedName item_name sheet.now index result start.new stop.new }
 {
-    let code = item_code(sheet, index);
-    *start = code.start;
-    *stop = code.stop;
-    code.number
+    hand_out_name(sheet, index, PathName::Item, start, stop)
 }

@@ -3,34 +3,35 @@ use mathlib.Core.Path.{◌≡◌, refl, sym, ap, ◌∙◌}
 use mathlib.Core.List.{List, [], ◌∷◌}
 use mathlib.Core.Bool.{cond}
 use mathlib.Core.Option.{Option, none, some}
+use Rattle.std.specs.Prelude.{Result, Ok, Err}
 use Prim.Native.Nat.{ℕ, zero, suc, ◌+◌, ◌*◌, ◌≤◌, ◌<◌, Ordering}
 use native.Mathlib.Omega.{arith}
 use native.Mathlib.Nat.{not-suc-le-zero, le_of_suc-le-suc}
 use lib.ListN.{drop, get_elem?}
 use lib.Seq.{drop-drop}
 use lib.Dec.{compare_is_eq}
-use Rattle.refusal.specs.MeaningAnswer.{done, refused}
 use Rattle.refusal.specs.declared.Refusal.{Refusal}
+use Rattle.refusal.specs.declared.Reason.TheVariants.{NoNumber}
+use Rattle.std.specs.Result.{result_or}
+use Rattle.refusal.specs.Told.{told, told_refusal}
 use Rattle.complex_entity.specs.MeaningRising.{here, there, View, less, same, more, Below, Rising, next}
 use Rattle.complex_entity.specs.MeaningParts.{Part, order, moved}
-use Rattle.complex_entity.specs.MirrorParts.{by, part_of, part_at, made_of}
+use Rattle.complex_entity.specs.MirrorParts.{by, part_of, part_at, Makes}
 use Rattle.complex_entity.specs.declared.PartialComplexEntity.{PartialComplexEntity}
-use Rattle.complex_entity.specs.declared.Verdict.TheVariants.{Done, Refused as Unmade}
+use Rattle.complex_entity.proofs.Answers.{makes_part, makes_none}
 use Rattle.complex_entity.proofs.Orders.{part_order}
-use Rattle.rows.specs.declared.Spot.{Spot}
-use Rattle.rows.specs.declared.Spot.TheVariants.{Found, Gap}
 use Rattle.rows.specs.MirrorRows.{parts_at, Stands}
 use Rattle.rows.specs.MirrorLists.{further, place_of}
 use Rattle.expression.specs.MeaningNumbers.{place_in, or17, number_of, set_at}
 
 -- ---- row to number
-abbrev found : Spot → Option ℕ
-found (Found i) = some i
-found (Gap i) = none
+abbrev found : Result ℕ ℕ → Option ℕ
+found (Ok i) = some i
+found (Err i) = none
 
-found_further : (s : Spot) → found (further 1 s) ≡ moved (found s)
-found_further (Found i) = let e : 1 + i ≡ suc i = omega arith in ap some e
-found_further (Gap i) = refl
+found_further : (s : Result ℕ ℕ) → found (further 1 s) ≡ moved (found s)
+found_further (Ok i) = let e : 1 + i ≡ suc i = omega arith in ap some e
+found_further (Err i) = refl
 
 -- a part that is less than all of a list has no place in it
 not_above : (p : Part) (L : List Part) → Below order p L → place_in L p ≡ none
@@ -48,23 +49,23 @@ unfolding place_of place_in
 found_place [] p R = refl
 found_place (q ∷ L) p (next B R) = go (part_order.view p q) (found_place L p R)
   where
-    go : {o : Ordering} → View order p q o → found (place_of L p) ≡ place_in L p → found (by o (Gap 0) (Found 0) (further 1 (place_of L p))) ≡ cond (compare_is_eq o) (some 0) (moved (place_in L p))
+    go : {o : Ordering} → View order p q o → found (place_of L p) ≡ place_in L p → found (by o (Err 0) (Ok 0) (further 1 (place_of L p))) ≡ cond (compare_is_eq o) (some 0) (moved (place_in L p))
     go (less h) e = sym (ap moved (not_above p L (λ r m. part_order.trans p q r h (B r m))))
     go (same d) e = refl
     go (more h) e = found_further (place_of L p) ∙ ap moved e
 
-module _ (l : List ℕ) (count : ℕ) (p : Part) (s : Spot) (h : Stands l count) (e : s ≡ place_of (parts_at count l) p) where
-  number_is : number_of (parts_at count l) p ≡ or17 (found s)
+-- the place that is found is the number, and where none is there is none
+module _ (l : List ℕ) (count : ℕ) (p : Part) (s : Result ℕ ℕ) (h : Stands l count) (e : s ≡ place_of (parts_at count l) p) (r : Result ℕ Refusal) (i : r ≡ Err (record { reason = NoNumber; place = 0 })) where
+  number_is : told (result_or s r) ≡ or17 (found s)
+  number_is = go s
+    where
+      go : (s : Result ℕ ℕ) → told (result_or s r) ≡ or17 (found s)
+      go (Ok n) = refl
+      go (Err n) = ap told i
+
+  pub numbered : (q : Result ℕ Refusal) → q ≡ result_or s r → told q ≡ number_of (parts_at count l) p
   unfolding number_of
-  number_is = ap or17 (sym (found_place (parts_at count l) p h.ordered) ∙ ap found (sym e))
-
-  pub number_found : (i : ℕ) → s ≡ Found i → done i ≡ number_of (parts_at count l) p
-  number_found i d = sym (number_is ∙ rw d)
-
-  pub number_none : (i : ℕ) → s ≡ Gap i → (why : Refusal) → why ≡ record { number = 17; place = 0 } → refused why.number why.place ≡ number_of (parts_at count l) p
-  number_none i d why w = rw w (sym (number_is ∙ rw d))
-
-pub ruleset numbering = (number_found, number_none)
+  numbered q d = ap told d ∙ number_is ∙ ap or17 (ap found e ∙ found_place (parts_at count l) p h.ordered)
 
 -- ---- number to row
 at_row : (n i : ℕ) (l : List ℕ) → i < n → get_elem? (parts_at n l) i ≡ some (part_at (drop (13 * i) l))
@@ -82,12 +83,12 @@ no_row (suc n) zero l h = absurd (not-suc-le-zero h)
 no_row (suc n) (suc i) l h = no_row n i (drop 13 l) (le_of_suc-le-suc h)
 
 module _ (l : List ℕ) (count number : ℕ) where
-  pub set_here : number < count → (part : PartialComplexEntity) → part ≡ part_of (part_at (drop (13 * number) l)) → record { verdict = Done; part = part } ≡ made_of (set_at (parts_at count l) number)
+  pub set_here : number < count → (p : PartialComplexEntity) → p ≡ part_of (part_at (drop (13 * number) l)) → Makes (set_at (parts_at count l) number) (Ok p)
   unfolding set_at
-  set_here h part e = rw (at_row count number l h, e)
+  set_here h p e = makes_part (set_at (parts_at count l) number) (part_at (drop (13 * number) l)) p e (ap or17 (at_row count number l h))
 
-  pub set_none : count ≤ number → (why : Refusal) → why ≡ record { number = 17; place = 0 } → record { verdict = Unmade why; part = part_of [] } ≡ made_of (set_at (parts_at count l) number)
+  pub set_none : count ≤ number → (why : Refusal) → why ≡ record { reason = NoNumber; place = 0 } → Makes (set_at (parts_at count l) number) (Err why)
   unfolding set_at
-  set_none h why e = rw (no_row count number l h, e)
+  set_none h why e = makes_none (set_at (parts_at count l) number) why (ap told_refusal e ∙ sym (ap or17 (no_row count number l h)))
 
 pub ruleset placing = (set_here, set_none)

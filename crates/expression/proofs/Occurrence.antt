@@ -1,14 +1,17 @@
 -- A scan over the nodes of an expression finds exactly the indices that occur in it; and what one turn of the scan sees.
-use mathlib.Core.Path.{◌≡◌, refl, sym, ◌∙◌}
-use mathlib.Core.Bool.{Bool, true, false, ◌&&◌, ◌||◌, or_assoc, or-false}
+use mathlib.Core.Path.{◌≡◌, refl, sym, ap, ◌∙◌}
+use mathlib.Core.Bool.{Bool, ◌&&◌, ◌||◌, or_assoc, or-false}
 use mathlib.Core.List.{List, [], ◌∷◌, ◌++◌, append_assoc, append-nil}
-use Prim.Native.Nat.{ℕ, suc, ◌+◌, ◌-◌, ◌≤◌, ◌<◌}
-use native.Mathlib.Numerals.{add-one, add-two, add-three}
+use Prim.Native.Nat.{ℕ, ◌+◌, ◌≤◌, ◌<◌}
+use native.Mathlib.Numerals.{add-one, add-two}
 use native.Mathlib.Omega.{arith}
 use lib.Dec.{eqb}
-use lib.ListN.{length, take, drop, get_or, set, length-drop}
-use lib.Seq.{drop-cons, sets-eq}
-use borrow.Author.Tests.{eq-eqb, ne_eqb}
+use lib.ListN.{length, take, drop, get_or, set}
+use lib.Seq.{sets-eq}
+use Rattle.std.specs.List.{list_any}
+use Rattle.std.specs.Slice.Iter.{chunks_exact_rest, chunks_exact_size, chunks_exact_steps}
+use Rattle.std.proofs.lemmas.Iterator.{YieldsList}
+use Rattle.std.proofs.lemmas.Iterator.Splits.{YieldsList-from_shown_while}
 use Rattle.expression.specs.MeaningExpression.{Expr, reference, andor, «and», oneof, Terms, end, ◌then◌, is_in, is_in_some}
 use Rattle.expression.specs.MirrorNodes.{flat, flats, scan}
 
@@ -30,49 +33,49 @@ pub scan_flat : (i : ℕ) (e : Expr ℕ) → scan i (flat e) ≡ is_in eqb i e
 unfolding scan
 scan_flat i e = rw (← append-nil (flat e)) (scan_node i e [] ∙ or-false (is_in eqb i e))
 
--- ---- the loop: what is left from `at` decides
-three : (l : List ℕ) (n : ℕ) → n + 3 ≤ length l → drop n l ≡ get_or l n 0 ∷ get_or l (n + 1) 0 ∷ get_or l (n + 2) 0 ∷ drop (n + 3) l
-three l n h =
-    let a : n < length l = omega arith in
-    let b : suc n < length l = omega arith in
-    let d : suc (suc n) < length l = omega arith in
-    rw (add-one, add-two, add-three, drop-cons l n 0, drop-cons l (suc n) 0, drop-cons l (suc (suc n)) 0)
+-- ---- the nodes of a slice, three numbers each
+pub triples : List ℕ → List (List ℕ)
+triples (a ∷ b ∷ c ∷ l) = (a ∷ b ∷ c ∷ []) ∷ triples l
+triples (a ∷ b ∷ []) = []
+triples (a ∷ []) = []
+triples [] = []
 
-scan_step : (i : ℕ) (l : List ℕ) (n : ℕ) → n + 3 ≤ length l → scan i (drop n l) ≡ (eqb (get_or l n 0) 0 && eqb (get_or l (n + 1) 0) i) || scan i (drop (n + 3) l)
-unfolding scan
-scan_step i l n h = rw (three l n)
+-- a node is a reference to the index
+abbrev pub names : ℕ → List ℕ → Bool
+names i node = eqb (get_or node 0 0) 0 && eqb (get_or node 1 0) i
 
-scan_short : (i : ℕ) (l : List ℕ) → length l < 3 → scan i l ≡ false
-unfolding scan
-scan_short i [] h = refl
-scan_short i (a ∷ []) h = refl
-scan_short i (a ∷ b ∷ []) h = refl
-scan_short i (a ∷ b ∷ c ∷ l) h = absurd (omega arith)
+scan_triples : (i : ℕ) (l : List ℕ) → scan i l ≡ list_any (names i) (triples l)
+unfolding scan triples
+scan_triples i [] = refl
+scan_triples i (a ∷ []) = refl
+scan_triples i (a ∷ b ∷ []) = refl
+scan_triples i (a ∷ b ∷ c ∷ l) = rw (scan_triples i l)
 
-pub record Scanning (l : List ℕ) (i at : ℕ) (r : Bool) : Type 0 where
-  pub within : at ≤ length l
-  pub rest : scan i (drop at l) ≡ r
+triples_first : (x r : List ℕ) → length x ≡ 3 → triples (x ++ r) ≡ x ∷ triples r
+unfolding triples
+triples_first (a ∷ b ∷ c ∷ []) r h = refl
+triples_first (a ∷ b ∷ c ∷ d ∷ x) r h = absurd (omega arith)
+triples_first (a ∷ b ∷ []) r h = absurd (omega arith)
+triples_first (a ∷ []) r h = absurd (omega arith)
+triples_first [] r h = absurd (omega arith)
 
-pub scan_start : (l : List ℕ) (i : ℕ) → Scanning l i 0 (scan i l)
-scan_start l i = record { within = omega arith; rest = refl }
+triples_none : (l : List ℕ) → length l < 3 → length (triples l) ≡ 0
+unfolding triples
+triples_none (a ∷ b ∷ c ∷ l) h = absurd (omega arith)
+triples_none (a ∷ b ∷ []) h = refl
+triples_none (a ∷ []) h = refl
+triples_none [] h = refl
 
-module _ (l : List ℕ) (i at : ℕ) (r : Bool) (f : Scanning l i at r) where
-  pub scan_done : length l - at < 3 → false ≡ r
-  scan_done h = sym (scan_short i (drop at l) (omega (arith, length-drop at l))) ∙ f.rest
+-- they are the chunks of three
+pub chunks_are : (s : _) (l : List ℕ) → chunks_exact_rest s ≡ l → chunks_exact_size s ≡ 3 → YieldsList (chunks_exact_steps {A = ℕ}) (λ x. x.now) s (triples l)
+chunks_are s l e h =
+    rw (← e) (YieldsList-from_shown_while (chunks_exact_steps {A = ℕ}) (λ x. x.now) (λ t. triples (chunks_exact_rest t)) (λ t. chunks_exact_size t ≡ 3)
+    (λ t u k g. triples_none (chunks_exact_rest t) (omega arith))
+    (λ t x u k g. (g.0 ∙ k, ap triples g.1.0 ∙ triples_first x.now (chunks_exact_rest u) (g.1.1 ∙ k)))
+    s h)
 
-  module _ (h : 3 ≤ length l - at) where
-    pub scan_found : get_or l at 0 ≡ 0 → get_or l (at + 1) 0 ≡ i → true ≡ r
-    scan_found a b = sym (scan_step i l at (omega arith) ∙ rw (eq-eqb (get_or l at 0) 0 a, eq-eqb (get_or l (at + 1) 0) i b)) ∙ f.rest
-
-    pub scan_other : get_or l at 0 ≡ 0 → (get_or l (at + 1) 0 ≡ i → ⊥) → Scanning l i (at + 3) r
-    scan_other a b =
-        record { within = omega (arith, f.within); rest = sym (scan_step i l at (omega arith) ∙ rw (eq-eqb (get_or l at 0) 0 a, ne_eqb (get_or l (at + 1) 0) i b)) ∙ f.rest }
-
-    pub scan_past : (get_or l at 0 ≡ 0 → ⊥) → Scanning l i (at + 3) r
-    scan_past a =
-        record { within = omega (arith, f.within); rest = sym (scan_step i l at (omega arith) ∙ rw (ne_eqb (get_or l at 0) 0 a)) ∙ f.rest }
-
-pub ruleset scanning = (scan_start, scan_done, scan_found, scan_other, scan_past)
+pub scan_is : (i : ℕ) (l : List ℕ) (b : Bool) → b ≡ list_any (names i) (triples l) → b ≡ scan i l
+scan_is i l b e = e ∙ sym (scan_triples i l)
 
 -- ---- a node that is put
 pub put_three : (l : List ℕ) (n a b c : ℕ) → n + 3 ≤ length l → set (set (set l n a) (n + 1) b) (n + 2) c ≡ take n l ++ ((a ∷ b ∷ c ∷ []) ++ drop (n + 3) l)

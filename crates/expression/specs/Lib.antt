@@ -3,5 +3,5 @@ pub mod MeaningBuilds
 pub mod MeaningNumbers
 pub mod MeaningExamples
 pub mod MirrorNodes
-pub mod Told
+pub mod MirrorKinds
 pub mod Claims

@@ -4,51 +4,63 @@
 #![tactic(auto)]
 
 ghost use Rattle.std.specs.Prelude.{◌≡◌, [], ◌∷◌, ◌++◌, ◌+◌, ◌*◌, ◌≤◌, length, take, drop};
-ghost use Rattle.complex_entity.specs.MirrorParts.{names_of, made_of};
+ghost use Rattle.refusal.specs.Told.{told};
+ghost use Rattle.complex_entity.specs.MirrorParts.{names_of, Makes};
 ghost use Rattle.rows.specs.MirrorRows.{parts_at, Stands};
 ghost use Rattle.expression.specs.MeaningNumbers.{number_of, set_at};
+ghost use Rattle.expression.specs.MirrorKinds.{kind_of, number_of_kind};
 ghost use Rattle.expression.specs.MirrorNodes.{scan};
-ghost use Rattle.expression.specs.Told.{told_number};
 
-use complex_entity::{Made, PartialComplexEntity, Verdict};
-use refusal::Refusal;
-use rows::{Spot, place};
+use complex_entity::PartialComplexEntity;
+use refusal::{Reason, Refusal};
+use rows::place;
 
-// A list that was valued: so many rows.
-#[derive(Clone, Copy)]
-pub struct Value {
-    pub count: usize,
+// What a node is.
+#[derive(Clone, Copy, Debug, PartialEq, Eq)]
+pub enum Kind {
+    Reference,
+    Andor,
+    And,
+    Oneof,
 }
 
-#[derive(Clone, Copy)]
-pub enum Valued {
-    Is(Value),
-    Refused(Refusal),
+// The number of a kind in lent memory.
+impl From<Kind> for u16 {
+    ghost from_gives = { λ kind n. n ≡ number_of_kind kind };
+
+    fn from(kind: Kind) -> u16 {
+        match kind {
+            Kind::Reference => 0,
+            Kind::Andor => 1,
+            Kind::And => 2,
+            Kind::Oneof => 3,
+        }
+    }
 }
 
-#[derive(Clone, Copy)]
-pub enum Numbered {
-    Number(usize),
-    Refused(Refusal),
+// The kind that a number in lent memory says, where every number says one.
+impl From<u16> for Kind {
+    ghost from_gives = { λ n kind. kind ≡ kind_of n };
+
+    fn from(number: u16) -> Kind {
+        match number {
+            0 => Kind::Reference,
+            1 => Kind::Andor,
+            2 => Kind::And,
+            _ => Kind::Oneof,
+        }
+    }
 }
 
 // The numbers of a node: its kind, its value, and how many numbers it and all below it take.
 pub const NODE: usize = 3;
 
-pub const REFERENCE: u16 = 0;
-
-pub const ANDOR: u16 = 1;
-
-pub const AND: u16 = 2;
-
-pub const ONEOF: u16 = 3;
-
 // A node goes behind those that stand at the front; how many numbers stand there then.
-pub fn put_node(nodes: &mut [u16], used: usize, kind: u16, value: u16, span: u16) -> usize
+pub fn put_node(nodes: &mut [u16], used: usize, kind: Kind, value: u16, span: u16) -> usize
     requires { used + 3 ≤ length nodes.old }
-    ensures { (result ≡ used + 3) × (nodes.new ≡ take used nodes.old ++ ((kind ∷ value ∷ span ∷ []) ++ drop (used + 3) nodes.old)) }
+    ensures { (result ≡ used + 3) × (nodes.new ≡ take used nodes.old ++ ((number_of_kind kind ∷ value ∷ span ∷ []) ++ drop (used + 3) nodes.old)) }
 {
-    nodes[used] = kind;
+    nodes[used] = u16::from(kind);
     nodes[used + 1] = value;
     nodes[used + 2] = span;
     used + NODE
@@ -58,50 +70,24 @@ pub fn put_node(nodes: &mut [u16], used: usize, kind: u16, value: u16, span: u16
 pub fn is_in(nodes: &[u16], index: u16) -> bool
     ensures { result ≡ scan index nodes.now }
 {
-    let mut at = 0;
-    while nodes.len() - at >= NODE {
-        if nodes[at] == REFERENCE {
-            if nodes[at + 1] == index {
-                return true;
-            }
-            at += NODE;
-        } else {
-            at += NODE;
-        }
-    }
-    false
+    nodes.chunks_exact(NODE).any(|node| Kind::from(node[0]) == Kind::Reference && node[1] == index)
 }
 
 // Row to number: a set's number is its place in the list.
-pub fn number_of(rows: &[u16], count: usize, part: PartialComplexEntity) -> Numbered
+pub fn number_of(rows: &[u16], count: usize, part: PartialComplexEntity) -> Result<usize, Refusal>
     requires { Stands rows.now count }
-    ensures { told_number result ≡ number_of (parts_at count rows.now) (names_of part) }
+    ensures { told result ≡ number_of (parts_at count rows.now) (names_of part) }
 {
-    let spot = place(rows, count, part);
-    let Spot::Found(i) = spot else {
-        return Numbered::Refused(Refusal::of(17));
-    };
-    Numbered::Number(i)
+    place(rows, count, part.as_slice()).or(Err(Reason::NoNumber.into()))
 }
 
 // Number to row, as the part that stands there.
-pub fn set_at(rows: &[u16], count: usize, number: usize) -> Made
+pub fn set_at(rows: &[u16], count: usize, number: usize) -> Result<PartialComplexEntity, Refusal>
     requires { 13 * count ≤ length rows.now }
-    ensures { result ≡ made_of (set_at (parts_at count rows.now) number) }
+    ensures { Makes (set_at (parts_at count rows.now) number) result }
 {
     if count <= number {
-        let part = PartialComplexEntity {
-            n: 0,
-            names: [0u16; PartialComplexEntity::LIMIT],
-        };
-        return Made {
-            verdict: Verdict::Refused(Refusal::of(17)),
-            part,
-        };
+        return Err(Reason::NoNumber.into());
     }
-    let part = PartialComplexEntity::read(rows, 13 * number);
-    Made {
-        verdict: Verdict::Done,
-        part,
-    }
+    Ok(PartialComplexEntity::read(rows, PartialComplexEntity::ROW * number))
 }

@@ -1,23 +1,31 @@
 -- What is built in the lent memory: the factors of an owner's items, then its subtypes that are left over, under the header of an ANDOR.
 use mathlib.Core.Path.{◌≡◌, refl, sym, ap, ◌∙◌}
 use mathlib.Core.Logic.{inl, inr}
-use mathlib.Core.List.{List, [], ◌∷◌, ◌++◌, append_assoc, append-nil}
+use mathlib.Core.List.{List, [], ◌∷◌, ◌++◌, map, append_assoc, append-nil}
 use mathlib.Core.Bool.{Bool, true, false}
-use Prim.Native.Nat.{ℕ, ◌+◌, ◌-◌, ◌≤◌, ◌<◌}
+use Prim.Native.Nat.{ℕ, suc, ◌+◌, ◌-◌, ◌≤◌}
 use native.Mathlib.Omega.{arith}
 use lib.Dec.{eqb}
 use lib.ListN.{length, take, drop, get_or, length-append, length-drop}
-use lib.Seq.{take_at, take_all, drop-drop, get_or-drop, length-take-le}
+use lib.Seq.{take_at, take_all, length-take-le}
 use borrow.Author.Tests.{eq-eqb, ne_eqb}
 use borrow.Rule.Slice.PartMut.{put_mid, post_of}
 use Rattle.expression.specs.MeaningExpression.{Expr, reference, andor, «and», oneof, Terms, end, append, is_in_some, factors}
+use Rattle.expression.specs.declared.Kind.{Kind}
+use Rattle.expression.specs.declared.Kind.TheVariants.{Andor}
+use Rattle.expression.specs.MirrorKinds.{kind_of}
 use Rattle.expression.specs.MirrorNodes.{flat, flats}
 use Rattle.expression.proofs.Spans.{flat_long, flats_append}
 use Rattle.merging.specs.MeaningMerging.{Combined, Pair, references}
 use Rattle.merging.specs.MeaningItems.{exprs_of, subs_of, all_factors, fresh}
-use Rattle.merging.specs.MirrorStream.{stream_of, pairs_of, Records, Pairs, Item, Appended}
+use Rattle.merging.specs.MirrorStream.{stream_of, paired, pairs_of, Records, Pairs, Item, Appended}
 use Rattle.merging.proofs.Factors.{both, append_end, all_factors_append}
-use Rattle.merging.proofs.Streams.{stream_injective, pairs_injective, Walk, walk_start, Next, walk_same, walk_ahead, walk_ended, walk_next}
+use Rattle.std.specs.Prelude.{Option, None, Some}
+use Rattle.merging.specs.MirrorWalk.{left, GivesRecord}
+use Rattle.merging.specs.declared.Walk.{Walk}
+use Rattle.merging.specs.declared.Record.{Record}
+use Rattle.merging.proofs.Streams.{stream_injective, pairs_injective}
+use Rattle.merging.proofs.Walking.{walk_ended, First, walk_first}
 
 -- ---- appending
 behind : (before after x rest : List ℕ) (used : ℕ) → used ≤ length before → after ≡ take used before ++ (x ++ rest) → take (used + length x) after ≡ take used before ++ x
@@ -46,32 +54,33 @@ nothing_appended a used = record { ends = omega arith; front = sym (append-nil (
 pub item_long : (l : List ℕ) → Item l → 3 ≤ length l
 item_long l i = rw i.is (flat_long i.expr)
 
-terms_behind : (l : List ℕ) (e : Expr ℕ) → l ≡ flat e → get_or l 0 0 ≡ 1 → take (length l - 3) (drop 3 l) ≡ flats (factors e)
+terms_behind : (l : List ℕ) (e : Expr ℕ) → l ≡ flat e → kind_of (get_or l 0 0) ≡ Andor → take (length l - 3) (drop 3 l) ≡ flats (factors e)
 unfolding flat factors
-terms_behind l (reference n) h k = absurd (omega (arith, rw h at k))
-terms_behind l («and» t) h k = absurd (omega (arith, rw h at k))
-terms_behind l (oneof t) h k = absurd (omega (arith, rw h at k))
+terms_behind l (reference n) h k = absurd (cc (rw h at k))
+terms_behind l («and» t) h k = absurd (cc (rw h at k))
+terms_behind l (oneof t) h k = absurd (cc (rw h at k))
 terms_behind l (andor t) h k = take_all (length l - 3) (drop 3 l) (omega (arith, length-drop 3 l)) ∙ ap (drop 3) h
 
-item_itself : (l : List ℕ) (e : Expr ℕ) → l ≡ flat e → (get_or l 0 0 ≡ 1 → ⊥) → l ≡ flats (factors e)
+item_itself : (l : List ℕ) (e : Expr ℕ) → l ≡ flat e → (kind_of (get_or l 0 0) ≡ Andor → ⊥) → l ≡ flats (factors e)
 unfolding flat factors
 item_itself l (reference n) h k = h
 item_itself l («and» t) h k = h ∙ sym (append-nil (flat («and» t)))
 item_itself l (oneof t) h k = h ∙ sym (append-nil (flat (oneof t)))
 item_itself l (andor t) h k = absurd (k (rw h refl))
 
-pub terms_put : (l a b : List ℕ) (used stop : ℕ) → get_or l 0 0 ≡ 1 → Appended (take (length l - 3) (drop 3 l)) a b used stop → (e : Expr ℕ) → l ≡ flat e → Appended (flats (factors e)) a b used stop
-terms_put l a b used stop k p e h = rw (terms_behind l e h k) at p
+module _ (l a b : List ℕ) (used stop : ℕ) (kind : Kind) (i : kind ≡ kind_of (get_or l 0 0)) where
+  pub terms_put : kind ≡ Andor → Appended (take (length l - 3) (drop 3 l)) a b used stop → (e : Expr ℕ) → l ≡ flat e → Appended (flats (factors e)) a b used stop
+  terms_put k p e h = rw (terms_behind l e h (sym i ∙ k)) at p
 
-pub item_put : (l a b : List ℕ) (used stop : ℕ) → (get_or l 0 0 ≡ 1 → ⊥) → Appended l a b used stop → (e : Expr ℕ) → l ≡ flat e → Appended (flats (factors e)) a b used stop
-item_put l a b used stop k p e h = let i : l ≡ flats (factors e) = item_itself l e h k in swap i p
-  where
-    swap : {x y : List ℕ} → x ≡ y → Appended x a b used stop → Appended y a b used stop
-    swap i p = rw (← i) p
+  pub item_put : (kind ≡ Andor → ⊥) → Appended l a b used stop → (e : Expr ℕ) → l ≡ flat e → Appended (flats (factors e)) a b used stop
+  item_put k p e h = let j : l ≡ flats (factors e) = item_itself l e h (λ q. k (i ∙ q)) in swap j p
+    where
+      swap : {x y : List ℕ} → x ≡ y → Appended x a b used stop → Appended y a b used stop
+      swap j p = rw (← j) p
 
-pub ruleset factoring = (terms_put, item_put)
+pub ruleset factoring = (item_long, terms_put, item_put)
 
--- ---- the factors of all items
+-- ---- the rules
 abbrev pub rules_among : ℕ → List (Combined ℕ) → List ℕ
 rules_among owner cs = flats (all_factors (exprs_of eqb owner cs) end)
 
@@ -123,84 +132,81 @@ rules_short owner (c ∷ cs) =
       | inr a ↦ rw a (omega arith)
     ]
 
-pub record Putting (rules : List ℕ) (owner : ℕ) (before nodes : List ℕ) (used stop at : ℕ) : Type 0 where
-  pub walk : Walk rules at
-  pub low : stop ≤ used + at
+-- the factors of the records so far stand behind what was used, and the others come
+pub record Putting (rules : List ℕ) (owner : ℕ) (before nodes : List ℕ) (used stop : ℕ) (rest : List ℕ) : Type 0 where
+  pub passed : List (Combined ℕ)
+  pub coming : List (Combined ℕ)
+  pub is : rules ≡ stream_of (passed ++ coming)
+  pub stands : rest ≡ stream_of coming
+  pub low : stop + length rest ≤ used + length rules
   pub room : used + length rules ≤ length before
   pub long : length nodes ≡ length before
-  pub put : Appended (rules_among owner walk.before) before nodes used stop
+  pub put : Appended (rules_among owner passed) before nodes used stop
 
-pub put_start : (rules : List ℕ) (owner : ℕ) (nodes : List ℕ) (used : ℕ) → Records rules → used + length rules ≤ length nodes → Putting rules owner nodes nodes used used 0
-unfolding walk_start exprs_of all_factors flat
-put_start rules owner nodes used w h = record { walk = walk_start rules w; low = omega arith; room = h; long = refl; put = nothing_appended nodes used }
+pub put_start : (rules : List ℕ) (owner : ℕ) (nodes : List ℕ) (used : ℕ) → Records rules → used + length rules ≤ length nodes → (rest : List ℕ) → rest ≡ rules → Putting rules owner nodes nodes used used rest
+unfolding exprs_of all_factors flat
+put_start rules owner nodes used w h rest e = record {
+  passed = [];
+  coming = w.list;
+  is = w.is;
+  stands = e ∙ w.is;
+  low = omega (arith, ap length e);
+  room = h;
+  long = refl;
+  put = nothing_appended nodes used;
+}
 
-module _ (rules : List ℕ) (owner : ℕ) (before nodes : List ℕ) (used stop at : ℕ) (g : Putting rules owner before nodes used stop at) where
-  pub put_long : length nodes ≡ length before
-  put_long = g.long
-
-  pub put_done : length rules ≤ at → (cs : List (Combined ℕ)) → rules ≡ stream_of cs → Appended (flats (all_factors (exprs_of eqb owner cs) end)) before nodes used stop
+module _ (rules : List ℕ) (owner : ℕ) (before nodes : List ℕ) (used stop : ℕ) (w v : Walk) (r : Option Record) (g : Putting rules owner before nodes used stop (left w)) (s : GivesRecord w r v) where
+  pub put_done : r ≡ None → (cs : List (Combined ℕ)) → rules ≡ stream_of cs → Appended (flats (all_factors (exprs_of eqb owner cs) end)) before nodes used stop
   put_done h cs e =
-      let s : g.walk.before ≡ cs = sym (append-nil g.walk.before) ∙ ap (λ (ds : List (Combined ℕ)). g.walk.before ++ ds) (sym (walk_ended g.walk h)) ∙ walk_same g.walk cs e in
-      moved s g.put
+      let i : g.passed ≡ cs = sym (append-nil g.passed) ∙ ap (λ (ds : List (Combined ℕ)). g.passed ++ ds) (sym (walk_ended w v r g.coming h s g.stands)) ∙ stream_injective (g.passed ++ g.coming) cs (sym g.is ∙ e) in
+      moved i g.put
     where
       moved : {ds es : List (Combined ℕ)} → ds ≡ es → Appended (rules_among owner ds) before nodes used stop → Appended (rules_among owner es) before nodes used stop
       moved i p = rw (← i) p
 
-  module _ (h : at < length rules) where
-    ahead : Next rules at g.walk.left
-    ahead = walk_ahead g.walk h
+  module _ (x : Record) (h : r ≡ Some x) where
+    one : First g.coming x (left v)
+    one = walk_first w v r x g.coming h s g.stands
 
-    pub put_room : at + 3 < length rules
-    put_room = let n = ahead in omega (arith, n.fits, n.long)
+    split : rules ≡ stream_of ((g.passed ++ (one.first ∷ [])) ++ one.later)
+    split = g.is ∙ ap (λ (cs : List (Combined ℕ)). stream_of (g.passed ++ cs)) one.split ∙ ap stream_of (sym (append_assoc g.passed (one.first ∷ []) one.later))
 
-    module _ (next : ℕ) (e : next ≡ at + 1 + get_or rules (at + 3) 0) where
-      pub put_fits : next ≤ length rules
-      put_fits = let n = ahead in omega (arith, n.fits)
+    fewer : length (left w) ≡ suc (length x.nodes.now + length (left v))
+    unfolding stream_of
+    fewer = ap length g.stands ∙ ap (λ (cs : List (Combined ℕ)). length (stream_of cs)) one.split ∙ ap suc (length-append (flat one.first.expr) (stream_of one.later) ∙ omega (arith, ap length one.nodes, ap length one.there))
 
-      pub put_part : at + 1 ≤ next
-      put_part = omega arith
+    pub put_item : Item x.nodes.now
+    put_item = record { expr = one.first.expr; is = sym one.nodes }
 
-      pub put_less : length rules - next < length rules - at
-      put_less = let n = ahead in omega (arith, n.fits, n.long)
+    pub put_enough : stop + length x.nodes.now ≤ length nodes
+    put_enough = omega (arith, fewer, g.low, g.room, g.long)
 
-      here : (n : Next rules at g.walk.left) → take (next - (at + 1)) (drop (at + 1) rules) ≡ flat n.first.expr
-      here n = ap (λ (i : ℕ). take (i - (at + 1)) (drop (at + 1) rules)) e ∙ n.here
+    pub put_other : (x.owner ≡ owner → ⊥) → Putting rules owner before nodes used stop (left v)
+    put_other k =
+        let i : rules_among owner g.passed ≡ rules_among owner (g.passed ++ (one.first ∷ [])) =
+        sym (rules_append owner g.passed (one.first ∷ []) ∙ ap (λ (l : List ℕ). rules_among owner g.passed ++ l) (rules_none owner one.first (λ j. k (sym one.owner ∙ j))) ∙ append-nil (rules_among owner g.passed)) in
+        record { passed = g.passed ++ (one.first ∷ []); coming = one.later; is = split; stands = one.there; low = omega (arith, fewer, g.low); room = g.room; long = g.long; put = rw (← i) g.put }
 
-      pub put_item : Item (take (next - (at + 1)) (drop (at + 1) rules))
-      put_item = let n = ahead in record { expr = n.first.expr; is = here n }
+    pub put_one : x.owner ≡ owner → (after : List ℕ) (stop' : ℕ) → length after ≡ length nodes
+        → ((d : Expr ℕ) → x.nodes.now ≡ flat d → Appended (flats (factors d)) nodes after stop stop')
+        → Putting rules owner before after used stop' (left v)
+    put_one k after stop' same f =
+        let p = f one.first.expr (sym one.nodes) in
+        let i : rules_among owner (g.passed ++ (one.first ∷ [])) ≡ rules_among owner g.passed ++ flats (factors one.first.expr) =
+        rules_append owner g.passed (one.first ∷ []) ∙ ap (λ (l : List ℕ). rules_among owner g.passed ++ l) (rules_one owner one.first (one.owner ∙ k)) in
+        record {
+          passed = g.passed ++ (one.first ∷ []);
+          coming = one.later;
+          is = split;
+          stands = one.there;
+          low = omega (arith, fewer, g.low, p.ends, factors_short one.first.expr, ap length one.nodes);
+          room = g.room;
+          long = same ∙ g.long;
+          put = rw i (then_appended (rules_among owner g.passed) (flats (factors one.first.expr)) before nodes after used stop stop' g.put p);
+        }
 
-      item_short : (n : Next rules at g.walk.left) → length (flat n.first.expr) ≡ get_or rules (at + 3) 0
-      item_short n = ap length (sym n.here) ∙ length-take-le (at + 1 + get_or rules (at + 3) 0 - (at + 1)) (drop (at + 1) rules) (omega (arith, n.fits, length-drop (at + 1) rules)) ∙ omega arith
-
-      pub put_enough : stop + length (take (next - (at + 1)) (drop (at + 1) rules)) ≤ length nodes
-      put_enough = let n = ahead in omega (arith, ap length (here n), item_short n, n.fits, g.low, g.room, g.long)
-
-      pub put_other : (get_or rules at 0 ≡ owner → ⊥) → Putting rules owner before nodes used stop next
-      unfolding walk_next
-      put_other k =
-          let n = ahead in
-          let s : rules_among owner g.walk.before ≡ rules_among owner (g.walk.before ++ (n.first ∷ [])) =
-          sym (rules_append owner g.walk.before (n.first ∷ []) ∙ ap (λ (l : List ℕ). rules_among owner g.walk.before ++ l) (rules_none owner n.first (λ i. k (n.owner ∙ i))) ∙ append-nil (rules_among owner g.walk.before)) in
-          record { walk = walk_next g.walk n next e; low = omega (arith, g.low); room = g.room; long = g.long; put = rw (← s) g.put }
-
-      pub put_one : get_or rules at 0 ≡ owner → (after : List ℕ) (stop' : ℕ) → length after ≡ length nodes
-          → ((d : Expr ℕ) → take (next - (at + 1)) (drop (at + 1) rules) ≡ flat d → Appended (flats (factors d)) nodes after stop stop')
-          → Putting rules owner before after used stop' next
-      unfolding walk_next
-      put_one k after stop' same f =
-          let n = ahead in
-          let p = f n.first.expr (here n) in
-          let s : rules_among owner (g.walk.before ++ (n.first ∷ [])) ≡ rules_among owner g.walk.before ++ flats (factors n.first.expr) =
-          rules_append owner g.walk.before (n.first ∷ []) ∙ ap (λ (l : List ℕ). rules_among owner g.walk.before ++ l) (rules_one owner n.first (sym n.owner ∙ k)) in
-          record {
-            walk = walk_next g.walk n next e;
-            low = omega (arith, g.low, p.ends, factors_short n.first.expr, item_short n);
-            room = g.room;
-            long = same ∙ g.long;
-            put = rw s (then_appended (rules_among owner g.walk.before) (flats (factors n.first.expr)) before nodes after used stop stop' g.put p);
-          }
-
-pub ruleset putting = (put_start, put_long, put_done, put_room, put_fits, put_part, put_less, put_item, put_enough, put_other, put_one)
+pub ruleset putting = (put_start, put_done, put_item, put_enough, put_other, put_one)
 
 -- ---- the subtypes that are left over
 abbrev pub fresh_in : ℕ → List (Combined ℕ) → List (Pair ℕ) → List ℕ
@@ -250,140 +256,126 @@ module _ (owner : ℕ) (cs : List (Combined ℕ)) (x : Pair ℕ) where
   unfolding subs_of fresh references flat
   fresh_other e = rw (ne_eqb x.super owner e)
 
--- a walk over pairs
-pub record PairWalk (l : List ℕ) (at : ℕ) : Type 0 where
-  pub before : List (Pair ℕ)
-  pub left : List (Pair ℕ)
-  pub all : l ≡ pairs_of (before ++ left)
-  pub stands : drop at l ≡ pairs_of left
-  pub within : at ≤ length l
+-- a turn of a walk through pairs
+record FirstPair (xs : List (Pair ℕ)) (r : Record) (rest : List ℕ) : Type 0 where
+  first : Pair ℕ
+  later : List (Pair ℕ)
+  split : xs ≡ first ∷ later
+  owner : first.super ≡ r.owner
+  nodes : r.nodes.now ≡ 0 ∷ first.sub ∷ 3 ∷ []
+  there : rest ≡ pairs_of later
 
-pub record NextPair (l : List ℕ) (at : ℕ) (left : List (Pair ℕ)) : Type 0 where
-  pub first : Pair ℕ
-  pub later : List (Pair ℕ)
-  pub split : left ≡ first ∷ later
-  pub owner : get_or l at 0 ≡ first.super
-  pub sub : get_or l (at + 2) 0 ≡ first.sub
-  pub there : drop (at + 4) l ≡ pairs_of later
-  pub fits : at + 4 ≤ length l
-
-next_pair : (l : List ℕ) (at : ℕ) (left : List (Pair ℕ)) → drop at l ≡ pairs_of left → at < length l → NextPair l at left
-unfolding stream_of flat
-next_pair l at [] d lt = absurd (omega (arith, length-drop at l, ap length d))
-next_pair l at (x ∷ xs) d lt =
-    let z : at + 0 ≡ at = omega arith in
+pair_first : (xs : List (Pair ℕ)) (r : Record) (rest : List ℕ) → First (map paired xs) r rest → FirstPair xs r rest
+unfolding flat
+pair_first [] r rest f = absurd (omega (arith, ap length f.split))
+pair_first (x ∷ xs) r rest f =
+    let c : paired x ≡ f.first = cc f.split in
     record {
       first = x;
       later = xs;
       split = refl;
-      owner = rw (← z) (sym (get_or-drop at l 0 0) ∙ ap (λ (y : List ℕ). get_or y 0 0) d);
-      sub = sym (get_or-drop at l 2 0) ∙ ap (λ (y : List ℕ). get_or y 2 0) d;
-      there = sym (drop-drop 4 at l) ∙ ap (drop 4) d;
-      fits = omega (arith, length-drop at l, ap length d);
+      owner = ap (λ (c : Combined ℕ). c.owner) c ∙ f.owner;
+      nodes = sym (ap (λ (c : Combined ℕ). flat c.expr) c ∙ f.nodes);
+      there = f.there ∙ ap stream_of (sym (cc f.split));
     }
 
-no_pair : (l : List ℕ) (at : ℕ) (left : List (Pair ℕ)) → drop at l ≡ pairs_of left → length l ≤ at → left ≡ []
-unfolding stream_of
-no_pair l at [] d h = refl
-no_pair l at (x ∷ xs) d h = absurd (omega (arith, length-drop at l, ap length d))
+pairs_ended : (xs : List (Pair ℕ)) → map paired xs ≡ [] → xs ≡ []
+pairs_ended [] e = refl
+pairs_ended (x ∷ xs) e = absurd (omega (arith, ap length e))
 
-unfoldable pub pair_next : {l : List ℕ} {at : ℕ} (w : PairWalk l at) → NextPair l at w.left → PairWalk l (at + 4)
-pair_next {l} {at} w n = record {
-  before = w.before ++ (n.first ∷ []);
-  left = n.later;
-  all = w.all ∙ ap (λ (xs : List (Pair ℕ)). pairs_of (w.before ++ xs)) n.split ∙ ap pairs_of (sym (append_assoc w.before (n.first ∷ []) n.later));
-  stands = n.there;
-  within = n.fits;
-}
-
-pub record Adding (rules pairs : List ℕ) (owner : ℕ) (before nodes : List ℕ) (used stop at : ℕ) : Type 0 where
+-- the subtypes so far that occur nowhere stand behind what was used, and the other pairs come
+pub record Adding (rules pairs : List ℕ) (owner : ℕ) (before nodes : List ℕ) (used stop : ℕ) (rest : List ℕ) : Type 0 where
   pub items : Records rules
-  pub walk : PairWalk pairs at
-  pub low : stop ≤ used + at
+  pub passed : List (Pair ℕ)
+  pub coming : List (Pair ℕ)
+  pub is : pairs ≡ pairs_of (passed ++ coming)
+  pub stands : rest ≡ pairs_of coming
+  pub low : stop + length rest ≤ used + length pairs
   pub room : used + length pairs ≤ length before
   pub long : length nodes ≡ length before
-  pub put : Appended (fresh_in owner items.list walk.before) before nodes used stop
+  pub put : Appended (fresh_in owner items.list passed) before nodes used stop
 
-pub add_start : (rules pairs : List ℕ) (owner : ℕ) (nodes : List ℕ) (used : ℕ) → Records rules → Pairs pairs → used + length pairs ≤ length nodes → Adding rules pairs owner nodes nodes used used 0
+pub add_start : (rules pairs : List ℕ) (owner : ℕ) (nodes : List ℕ) (used : ℕ) → Records rules → Pairs pairs → used + length pairs ≤ length nodes → (rest : List ℕ) → rest ≡ pairs → Adding rules pairs owner nodes nodes used used rest
 unfolding subs_of fresh references flat
-add_start rules pairs owner nodes used r w h = record {
+add_start rules pairs owner nodes used r w h rest e = record {
   items = r;
-  walk = record { before = []; left = w.list; all = w.is; stands = w.is; within = omega arith };
-  low = omega arith;
+  passed = [];
+  coming = w.list;
+  is = w.is;
+  stands = e ∙ w.is;
+  low = omega (arith, ap length e);
   room = h;
   long = refl;
   put = nothing_appended nodes used;
 }
 
-module _ (rules pairs : List ℕ) (owner : ℕ) (before nodes : List ℕ) (used stop at : ℕ) (g : Adding rules pairs owner before nodes used stop at) where
-  pub add_long : length nodes ≡ length before
-  add_long = g.long
-
-  pub add_rules : Records rules
-  add_rules = g.items
-
-  pub add_done : length pairs ≤ at → (cs : List (Combined ℕ)) (xs : List (Pair ℕ)) → rules ≡ stream_of cs → pairs ≡ pairs_of xs
+module _ (rules pairs : List ℕ) (owner : ℕ) (before nodes : List ℕ) (used stop : ℕ) (w v : Walk) (r : Option Record) (g : Adding rules pairs owner before nodes used stop (left w)) (s : GivesRecord w r v) where
+  pub add_done : r ≡ None → (cs : List (Combined ℕ)) (xs : List (Pair ℕ)) → rules ≡ stream_of cs → pairs ≡ pairs_of xs
       → Appended (flats (references (fresh eqb (exprs_of eqb owner cs) (subs_of eqb owner xs)))) before nodes used stop
   add_done h cs xs e f =
       let i : g.items.list ≡ cs = stream_injective g.items.list cs (sym g.items.is ∙ e) in
-      let j : g.walk.before ≡ xs =
-      sym (append-nil g.walk.before) ∙ ap (λ (ys : List (Pair ℕ)). g.walk.before ++ ys) (sym (no_pair pairs at g.walk.left g.walk.stands h)) ∙ pairs_injective (g.walk.before ++ g.walk.left) xs (sym g.walk.all ∙ f) in
+      let n : g.coming ≡ [] = pairs_ended g.coming (walk_ended w v r (map paired g.coming) h s g.stands) in
+      let j : g.passed ≡ xs = sym (append-nil g.passed) ∙ ap (λ (ys : List (Pair ℕ)). g.passed ++ ys) (sym n) ∙ pairs_injective (g.passed ++ g.coming) xs (sym g.is ∙ f) in
       moved i j g.put
     where
       moved : {ds es : List (Combined ℕ)} {ys zs : List (Pair ℕ)} → ds ≡ es → ys ≡ zs → Appended (fresh_in owner ds ys) before nodes used stop → Appended (fresh_in owner es zs) before nodes used stop
       moved i j p = rw (← i, ← j) p
 
-  module _ (h : at < length pairs) where
-    ahead_pair : NextPair pairs at g.walk.left
-    ahead_pair = next_pair pairs at g.walk.left g.walk.stands h
+  module _ (x : Record) (h : r ≡ Some x) where
+    pair_here : FirstPair g.coming x (left v)
+    pair_here = pair_first g.coming x (left v) (walk_first w v r x (map paired g.coming) h s g.stands)
 
-    pub add_fits : at + 4 ≤ length pairs
-    add_fits = ahead_pair.fits
+    pair_split : pairs ≡ pairs_of ((g.passed ++ (pair_here.first ∷ [])) ++ pair_here.later)
+    pair_split = g.is ∙ ap (λ (xs : List (Pair ℕ)). pairs_of (g.passed ++ xs)) pair_here.split ∙ ap pairs_of (sym (append_assoc g.passed (pair_here.first ∷ []) pair_here.later))
 
-    pub add_sub : at + 2 < length pairs
-    add_sub = let k = ahead_pair.fits in omega arith
+    pair_fewer : length (left w) ≡ 4 + length (left v)
+    unfolding stream_of flat
+    pair_fewer = ap length g.stands ∙ ap (λ (xs : List (Pair ℕ)). length (pairs_of xs)) pair_here.split ∙ omega (arith, ap length pair_here.there)
 
-    pub add_less : length pairs - (at + 4) < length pairs - at
-    add_less = let k = ahead_pair.fits in omega arith
+    pub add_sub : length x.nodes.now ≡ 3
+    add_sub = ap length pair_here.nodes
 
     pub add_room : stop + 3 ≤ length nodes
-    add_room = let k = ahead_pair.fits in omega (arith, g.low, g.room, g.long)
+    add_room = omega (arith, pair_fewer, g.low, g.room, g.long)
 
-    kept : (n : NextPair pairs at g.walk.left) → fresh_in owner g.items.list (n.first ∷ []) ≡ [] → Adding rules pairs owner before nodes used stop (at + 4)
-    unfolding pair_next
-    kept n z =
-        let s : fresh_in owner g.items.list g.walk.before ≡ fresh_in owner g.items.list (g.walk.before ++ (n.first ∷ [])) =
-        sym (fresh_in_append owner g.items.list g.walk.before (n.first ∷ []) ∙ ap (λ (l : List ℕ). fresh_in owner g.items.list g.walk.before ++ l) z ∙ append-nil (fresh_in owner g.items.list g.walk.before)) in
-        record { items = g.items; walk = pair_next g.walk n; low = omega (arith, g.low); room = g.room; long = g.long; put = rw (← s) g.put }
+    kept : fresh_in owner g.items.list (pair_here.first ∷ []) ≡ [] → Adding rules pairs owner before nodes used stop (left v)
+    kept z =
+        let i : fresh_in owner g.items.list g.passed ≡ fresh_in owner g.items.list (g.passed ++ (pair_here.first ∷ [])) =
+        sym (fresh_in_append owner g.items.list g.passed (pair_here.first ∷ []) ∙ ap (λ (l : List ℕ). fresh_in owner g.items.list g.passed ++ l) z ∙ append-nil (fresh_in owner g.items.list g.passed)) in
+        record { items = g.items; passed = g.passed ++ (pair_here.first ∷ []); coming = pair_here.later; is = pair_split; stands = pair_here.there; low = omega (arith, pair_fewer, g.low); room = g.room; long = g.long; put = rw (← i) g.put }
 
-    pub add_other : (get_or pairs at 0 ≡ owner → ⊥) → Adding rules pairs owner before nodes used stop (at + 4)
-    add_other k = let n = ahead_pair in kept n (fresh_other owner g.items.list n.first (λ i. k (n.owner ∙ i)))
+    pub add_other : (x.owner ≡ owner → ⊥) → Adding rules pairs owner before nodes used stop (left v)
+    add_other k = kept (fresh_other owner g.items.list pair_here.first (λ i. k (sym pair_here.owner ∙ i)))
 
-    module _ (k : get_or pairs at 0 ≡ owner) (b : Bool) (s : (cs : List (Combined ℕ)) → rules ≡ stream_of cs → b ≡ is_in_some eqb (get_or pairs (at + 2) 0) (all_factors (exprs_of eqb owner cs) end)) where
-      tested : (n : NextPair pairs at g.walk.left) → is_in_some eqb n.first.sub (all_factors (exprs_of eqb owner g.items.list) end) ≡ b
-      tested n = sym (s g.items.list g.items.is ∙ ap (λ (i : ℕ). is_in_some eqb i (all_factors (exprs_of eqb owner g.items.list) end)) n.sub)
+    module _ (k : x.owner ≡ owner) (b : Bool) (t : (cs : List (Combined ℕ)) → rules ≡ stream_of cs → b ≡ is_in_some eqb (get_or x.nodes.now 1 0) (all_factors (exprs_of eqb owner cs) end)) where
+      sub : get_or x.nodes.now 1 0 ≡ pair_here.first.sub
+      sub = ap (λ (l : List ℕ). get_or l 1 0) pair_here.nodes
 
-      pub add_old : b ≡ true → Adding rules pairs owner before nodes used stop (at + 4)
-      add_old t = let n = ahead_pair in kept n (fresh_old owner g.items.list n.first (sym n.owner ∙ k) (tested n ∙ t))
+      tested : is_in_some eqb pair_here.first.sub (all_factors (exprs_of eqb owner g.items.list) end) ≡ b
+      tested = sym (t g.items.list g.items.is ∙ ap (λ (i : ℕ). is_in_some eqb i (all_factors (exprs_of eqb owner g.items.list) end)) sub)
+
+      pub add_old : b ≡ true → Adding rules pairs owner before nodes used stop (left v)
+      add_old f = kept (fresh_old owner g.items.list pair_here.first (pair_here.owner ∙ k) (tested ∙ f))
 
       pub add_new : b ≡ false → (after : List ℕ) (stop' : ℕ) → length after ≡ length nodes
-          → (stop' ≡ stop + 3) × (after ≡ take stop nodes ++ ((0 ∷ get_or pairs (at + 2) 0 ∷ 3 ∷ []) ++ drop (stop + 3) nodes))
-          → Adding rules pairs owner before after used stop' (at + 4)
-      unfolding pair_next
+          → (stop' ≡ stop + 3) × (after ≡ take stop nodes ++ ((0 ∷ get_or x.nodes.now 1 0 ∷ 3 ∷ []) ++ drop (stop + 3) nodes))
+          → Adding rules pairs owner before after used stop' (left v)
       add_new f after stop' same p =
-          let n = ahead_pair in
-          let x : List ℕ = 0 ∷ get_or pairs (at + 2) 0 ∷ 3 ∷ [] in
-          let q : Appended x nodes after stop stop' = record { ends = p.0; front = ap (λ (i : ℕ). take i after) p.0 ∙ behind nodes after x (drop (stop + 3) nodes) stop (omega (arith, add_room)) p.1 } in
-          let s : fresh_in owner g.items.list (g.walk.before ++ (n.first ∷ [])) ≡ fresh_in owner g.items.list g.walk.before ++ x =
-          fresh_in_append owner g.items.list g.walk.before (n.first ∷ [])
-          ∙ ap (λ (l : List ℕ). fresh_in owner g.items.list g.walk.before ++ l) (fresh_one owner g.items.list n.first (sym n.owner ∙ k) (tested n ∙ f) ∙ ap (λ (i : ℕ). 0 ∷ i ∷ 3 ∷ []) (sym n.sub)) in
+          let y : List ℕ = 0 ∷ get_or x.nodes.now 1 0 ∷ 3 ∷ [] in
+          let q : Appended y nodes after stop stop' = record { ends = p.0; front = ap (λ (i : ℕ). take i after) p.0 ∙ behind nodes after y (drop (stop + 3) nodes) stop (omega (arith, add_room)) p.1 } in
+          let i : fresh_in owner g.items.list (g.passed ++ (pair_here.first ∷ [])) ≡ fresh_in owner g.items.list g.passed ++ y =
+          fresh_in_append owner g.items.list g.passed (pair_here.first ∷ [])
+          ∙ ap (λ (l : List ℕ). fresh_in owner g.items.list g.passed ++ l) (fresh_one owner g.items.list pair_here.first (pair_here.owner ∙ k) (tested ∙ f) ∙ ap (λ (i : ℕ). 0 ∷ i ∷ 3 ∷ []) (sym sub)) in
           record {
             items = g.items;
-            walk = pair_next g.walk n;
-            low = omega (arith, g.low, p.0);
+            passed = g.passed ++ (pair_here.first ∷ []);
+            coming = pair_here.later;
+            is = pair_split;
+            stands = pair_here.there;
+            low = omega (arith, pair_fewer, g.low, p.0);
             room = g.room;
             long = same ∙ g.long;
-            put = rw s (then_appended (fresh_in owner g.items.list g.walk.before) x before nodes after used stop stop' g.put q);
+            put = rw i (then_appended (fresh_in owner g.items.list g.passed) y before nodes after used stop stop' g.put q);
           }
 
-pub ruleset adding = (add_start, add_long, add_rules, add_done, add_fits, add_sub, add_less, add_room)
+pub ruleset adding = (add_start, add_done, add_sub, add_room, add_other, add_old, add_new)

@@ -10,20 +10,17 @@ ghost use Rattle.merging.specs.MeaningMerging.{Combined, Pair, references};
 ghost use Rattle.merging.specs.MeaningItems.{exprs_of, subs_of, all_factors, fresh};
 ghost use Rattle.merging.specs.MirrorStream.{stream_of, pairs_of, Records, Pairs, Item, Appended};
 
-use expression::{ANDOR, NODE, REFERENCE, put_node};
-use merging::{occurs, record_end};
-use rows::copy;
-
-// The numbers of a record whose expression is a reference.
-const PAIR: usize = 4;
+use expression::{Kind, NODE, put_node};
+use merging::{Walk, occurs};
 
 // Numbers go behind those that are used.
 fn append(numbers: &[u16], nodes: &mut [u16], used: usize) -> usize
     requires { used + length numbers.now ≤ length nodes.old }
     ensures { Appended numbers.now nodes.old nodes.new used result }
 {
-    copy(&mut nodes[used..], numbers, numbers.len());
-    used + numbers.len()
+    let stop = used + numbers.len();
+    nodes[used..stop].copy_from_slice(numbers);
+    stop
 }
 
 // The factors that an item brings go behind the numbers that are used: the terms of an ANDOR, or the item itself.
@@ -32,10 +29,10 @@ fn put_factors(item: &[u16], nodes: &mut [u16], used: usize) -> usize
     requires item_in_bounds { used + length item.now ≤ length nodes.old }
     ensures { (e : Expr ℕ) → item.now ≡ flat e → Appended (flats (factors e)) nodes.old nodes.new used result }
 {
-    if item[0] == ANDOR {
-        return append(&item[NODE..], nodes, used);
+    match Kind::from(item[0]) {
+        Kind::Andor => append(&item[NODE..], nodes, used),
+        _ => append(item, nodes, used),
     }
-    append(item, nodes, used)
 }
 
 // The factors of all items of the owner, in order.
@@ -45,14 +42,9 @@ pub fn put_rules(rules: &[u16], owner: u16, nodes: &mut [u16], used: usize) -> u
     ensures { (cs : List (Combined ℕ)) → rules.now ≡ stream_of cs → Appended (flats (all_factors (exprs_of eqb owner cs) end)) nodes.old nodes.new used result }
 {
     let mut stop = used;
-    let mut at = 0;
-    while at < rules.len() {
-        let next = record_end(rules, at);
-        if rules[at] == owner {
-            stop = put_factors(&rules[at + 1..next], nodes, stop);
-            at = next;
-        } else {
-            at = next;
+    for record in Walk::of(rules) {
+        if record.owner == owner {
+            stop = put_factors(record.nodes, nodes, stop);
         }
     }
     stop
@@ -66,17 +58,10 @@ pub fn put_fresh(rules: &[u16], pairs: &[u16], owner: u16, nodes: &mut [u16], us
     ensures { (cs : List (Combined ℕ)) (xs : List (Pair ℕ)) → rules.now ≡ stream_of cs → pairs.now ≡ pairs_of xs → Appended (flats (references (fresh eqb (exprs_of eqb owner cs) (subs_of eqb owner xs)))) nodes.old nodes.new used result }
 {
     let mut stop = used;
-    let mut at = 0;
-    while at < pairs.len() {
-        if pairs[at] == owner {
-            if occurs(rules, owner, pairs[at + 2]) {
-                at += PAIR;
-            } else {
-                stop = put_node(nodes, stop, REFERENCE, pairs[at + 2], 3);
-                at += PAIR;
-            }
-        } else {
-            at += PAIR;
+    for pair in Walk::of(pairs) {
+        let sub = pair.nodes[1];
+        if pair.owner == owner && !occurs(rules, owner, sub) {
+            stop = put_node(nodes, stop, Kind::Reference, sub, NODE as u16);
         }
     }
     stop

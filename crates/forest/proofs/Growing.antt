@@ -9,10 +9,10 @@ use borrow.Author.Tests.{lt-ltb, le-ltb, ltb-true, ltb-false}
 use lib.Dec.{ltb}
 use lib.ListN.{length, get_or, take, drop, length-take, length-drop}
 use lib.Seq.{take_at, drop_at}
+use Rattle.std.specs.Prelude.{Option, Some, None}
 use Rattle.sheet.specs.MeaningSheet.{size_of}
 use Rattle.sheet.specs.MirrorField.{field_at}
-use Rattle.sheet.specs.declared.Header.{Header}
-use Rattle.sheet.specs.declared.Header.TheVariants.{Field, Passes}
+use Rattle.sheet.specs.declared.Field.{Field}
 use Rattle.grammar.proofs.Choosing.{either}
 use Rattle.forest.specs.MeaningForest.{Forest}
 use Rattle.forest.specs.MeaningForest.Forest.{nil, leaf, node}
@@ -53,9 +53,9 @@ short (suc n) (t ∷ a ∷ []) h = refl
 short (suc n) (t ∷ a ∷ b ∷ xs) h = absurd (let y : ⊥ = omega arith in y)
 
 -- the forest at a place, by what stands there
-abbrev pub Grown : List ℕ → ℕ → ℕ → Header → Type 0
-Grown s at e Passes = forest_at s at e ≡ nil
-Grown s at e (Field t a b) = forest_at s at e ≡ onto (nests t) t (part s a b) (forest_at s a b) (forest_at s b e)
+abbrev pub Grown : List ℕ → ℕ → ℕ → Option Field → Type 0
+Grown s at e None = forest_at s at e ≡ nil
+Grown s at e (Some f) = forest_at s at e ≡ onto (nests f.tag) f.tag (part s f.start f.stop) (forest_at s f.start f.stop) (forest_at s f.stop e)
 
 module _ (s : List ℕ) (at e : ℕ) (h : e ≤ length s) where
   none : e - at < 3 → forest_at s at e ≡ nil
@@ -71,7 +71,7 @@ module _ (s : List ℕ) (at e : ℕ) (h : e ≤ length s) where
       let z : ltb (length (part s (at + 3) e)) (get_or s (at + 1) 0 * 256 + get_or s (at + 2) 0) ≡ true = lt-ltb (length (part s (at + 3) e)) (get_or s (at + 1) 0 * 256 + get_or s (at + 2) 0) (omega arith) in
       rw (k0, three s at m (omega arith), z)
 
-  here : (n : ℕ) → size_of s at ≡ n → at + 3 + n ≤ e → Grown s at e (Field (get_or s at 0) (at + 3) (at + 3 + n))
+  here : (n : ℕ) → size_of s at ≡ n → at + 3 + n ≤ e → Grown s at e (Some (record { tag = get_or s at 0; start = at + 3; stop = at + 3 + n }))
   unfolding forest_at decode
   here n q k =
       let m = e - (at + 3) in
@@ -91,8 +91,8 @@ module _ (s : List ℕ) (at e : ℕ) (h : e ≤ length s) where
   pub grown : Grown s at e (field_at s at e)
   unfolding field_at
   grown =
-      either (Grown s at e) (ltb (e - at) 3) Passes _
+      either (Grown s at e) (ltb (e - at) 3) None _
       (λ k. none (ltb-true (e - at) 3 k))
-      (λ k. either (Grown s at e) (ltb (e - (at + 3)) (size_of s at)) Passes _
+      (λ k. either (Grown s at e) (ltb (e - (at + 3)) (size_of s at)) None _
       (λ w. cut (omega (arith, ltb-false (e - at) 3 k)) (ltb-true (e - (at + 3)) (size_of s at) w))
       (λ w. here (size_of s at) refl (omega (arith, ltb-false (e - at) 3 k, ltb-false (e - (at + 3)) (size_of s at) w))))

@@ -8,11 +8,11 @@ use borrow.Author.Tests.{le-ltb, ltb-false}
 use lib.Dec.{ltb}
 use lib.ListN.{length, get_or, take, drop, length-take, length-drop, length-append}
 use lib.Seq.{drop-cons, take-add, drop-drop, take-append_seam, drop-append_seam, get_or-append-add}
+use Rattle.std.specs.Prelude.{Option, Some, None}
 use Rattle.sheet.specs.MeaningSheet.{size_of}
 use Rattle.sheet.specs.Claims.{AllBytes}
 use Rattle.sheet.specs.MirrorField.{field_at}
-use Rattle.sheet.specs.declared.Header.{Header}
-use Rattle.sheet.specs.declared.Header.TheVariants.{Field, Passes}
+use Rattle.sheet.specs.declared.Field.{Field}
 use Rattle.grammar.proofs.Choosing.{either}
 use Rattle.forest.specs.MeaningForest.{field}
 
@@ -33,15 +33,15 @@ bytes_left (x ∷ xs) ys b (suc i) = bytes_left xs ys (λ j. b (suc j)) i
 
 -- ---- from bytes to a field
 
-abbrev pub Laid : List ℕ → ℕ → ℕ → Header → Type 0
-Laid s at e Passes = Unit {0}
-Laid s at e (Field t a b) = (get_or s at 0 ≡ t) × (at + 3 ≡ a) × (at + 3 + size_of s at ≡ b) × (b ≤ e)
+abbrev pub Laid : List ℕ → ℕ → ℕ → Option Field → Type 0
+Laid s at e None = Unit {0}
+Laid s at e (Some f) = (get_or s at 0 ≡ f.tag) × (at + 3 ≡ f.start) × (at + 3 + size_of s at ≡ f.stop) × (f.stop ≤ e)
 
 pub laid : (s : List ℕ) (at e : ℕ) → Laid s at e (field_at s at e)
 unfolding field_at
 laid s at e =
-    either (Laid s at e) (ltb (e - at) 3) Passes _ (λ _. tt)
-    (λ h. either (Laid s at e) (ltb (e - (at + 3)) (size_of s at)) Passes _ (λ _. tt)
+    either (Laid s at e) (ltb (e - at) 3) None _ (λ _. tt)
+    (λ h. either (Laid s at e) (ltb (e - (at + 3)) (size_of s at)) None _ (λ _. tt)
     (λ k. (refl, refl, refl, omega (arith, ltb-false (e - at) 3 h, ltb-false (e - (at + 3)) (size_of s at) k))))
 
 pub three : (s : List ℕ) (at n : ℕ) → at + 3 ≤ length s → take (suc (suc (suc n))) (drop at s) ≡ get_or s at 0 ∷ get_or s (at + 1) 0 ∷ get_or s (at + 2) 0 ∷ take n (drop (at + 3) s)
@@ -72,7 +72,7 @@ part_split s a b e h k =
     let r : a + (b - a) ≡ b = omega arith in
     rw (q, take-add (b - a) (e - b) (drop a s), drop-drop (b - a) a s, r)
 
-pub field_part : (s : List ℕ) → AllBytes s → (at e t a b : ℕ) → e ≤ length s → field_at s at e ≡ Field t a b → (field t (part s a b) ≡ part s at b) × (at ≤ b) × (b ≤ e)
+pub field_part : (s : List ℕ) → AllBytes s → (at e t a b : ℕ) → e ≤ length s → field_at s at e ≡ Some (record { tag = t; start = a; stop = b }) → (field t (part s a b) ≡ part s at b) × (at ≤ b) × (b ≤ e)
 field_part s bs at e t a b h q =
     let l = subst (Laid s at e) q (laid s at e) in (
       subst (λ (x : ℕ). field x (part s a b) ≡ part s at b) l.0
@@ -85,12 +85,12 @@ field_part s bs at e t a b h q =
 -- ---- and back
 
 pub record Read (s : List ℕ) (at e t : ℕ) (v rest : List ℕ) : Type 0 where
-  pub there : field_at s at e ≡ Field t (at + 3) (at + 3 + length v)
+  pub there : field_at s at e ≡ Some (record { tag = t; start = at + 3; stop = at + 3 + length v })
   pub body : part s (at + 3) (at + 3 + length v) ≡ v
   pub left : rest ≡ part s (at + 3 + length v) e
   pub within : at + 3 + length v ≤ e
 
-header_is : (s : List ℕ) (at e t n : ℕ) → at + 3 + n ≤ e → get_or s at 0 ≡ t → size_of s at ≡ n → field_at s at e ≡ Field t (at + 3) (at + 3 + n)
+header_is : (s : List ℕ) (at e t n : ℕ) → at + 3 + n ≤ e → get_or s at 0 ≡ t → size_of s at ≡ n → field_at s at e ≡ Some (record { tag = t; start = at + 3; stop = at + 3 + n })
 unfolding field_at
 header_is s at e t n h q l =
     let a : ltb (e - at) 3 ≡ false = le-ltb (e - at) 3 (omega arith) in

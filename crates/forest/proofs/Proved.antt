@@ -12,19 +12,17 @@ use lib.Dec.{ltb, leb}
 use lib.ListN.{length, length-append}
 use lib.Seq.{take-append_seam, drop-append_seam, take-length}
 use Rattle.refusal.specs.declared.Refusal.{Refusal}
-use Rattle.refusal.specs.MeaningAnswer.{done}
+use Rattle.std.specs.Prelude.{Result}
+use Rattle.refusal.specs.MeaningAnswer.{Answer, done, refused}
+use Rattle.refusal.specs.Told.{told}
 use Rattle.grammar.specs.MeaningReading.{Reading}
 use Rattle.grammar.specs.MeaningGrammar.{Kind, kind_of, most_bytes, most_depth}
 use Rattle.grammar.specs.MeaningGrammar.Kind.{name, simple, empty, fields}
 use Rattle.sheet.specs.MeaningSheet.{Is}
-use Rattle.sheet.specs.Told.{told}
 use Rattle.sheet.specs.Promises.{PromiseVerdict}
 use Rattle.sheet.specs.Claims.{AllBytes}
 use Rattle.sheet.specs.MirrorCheck.{walk_at, no_counts, sheet_check}
-use Rattle.sheet.specs.declared.Judgement.{Judgement}
 use Rattle.sheet.specs.declared.Counts.{Counts}
-use Rattle.sheet.specs.declared.Checked.{Checked}
-use Rattle.sheet.specs.declared.Checked.TheVariants.{Accepted, Refused}
 use Rattle.grammar.proofs.Choosing.{clash}
 use Rattle.sheet.proofs.FirstFault.{check_accepts, check_refuses}
 use Rattle.sheet.proofs.Proved.{accepts_exactly}
@@ -73,19 +71,19 @@ reads_back rd f b F = decoded rd f 0 (suc (length (encode f))) (omega arith) F.r
 all_of : (s : List ℕ) → part s 0 (length s) ≡ s
 all_of s = let k : length s - 0 ≡ length s = omega arith in rw k (take-length s)
 
-checked : (b : Bool) (x : Checked) (r : Refusal) (c : Counts) → cond b x (Refused r) ≡ Accepted c → (b ≡ true) × (x ≡ Accepted c)
-checked true x r c q = (refl, q)
-checked false x r c q = clash (cc)
+checked : (b : Bool) (x : Answer Counts) (n p : ℕ) (c : Counts) → cond b x (refused n p) ≡ done c → (b ≡ true) × (x ≡ done c)
+checked true x n p c q = (refl, q)
+checked false x n p c q = clash (cc)
 
-encoded : (rd : Reading) (s : List ℕ) → AllBytes s → (c : Counts) → sheet_check rd s ≡ Accepted c → (f : Forest) × (encode f ≡ s) × Fits rd f
+encoded : (rd : Reading) (s : List ℕ) → AllBytes s → (c : Counts) → sheet_check rd s ≡ done c → (f : Forest) × (encode f ≡ s) × Fits rd f
 unfolding sheet_check
 encoded rd s b c q =
-    let z = checked (leb (length s) most_bytes) (walk_at rd s 0 0 0 (length s) most_depth no_counts) (record { number = 1; place = 0 }) c q in
+    let z = checked (leb (length s) most_bytes) (walk_at rd s 0 0 0 (length s) most_depth no_counts) 1 0 c q in
     let x = (exactly rd s b 0 0 0 (length s) most_depth no_counts c (le_refl (length s)) (omega arith)).0 z.1 in
     let e : encode x.0 ≡ s = x.1 ∙ all_of s in
     (x.0, e, fits_whole rd x.0 (rw e b) (rw e (leb-true (length s) most_bytes z.0)) c x.2)
 
-accepted : (rd : Reading) (f : Forest) → AllBytes (encode f) → Fits rd f → (c : Counts) × (sheet_check rd (encode f) ≡ Accepted c)
+accepted : (rd : Reading) (f : Forest) → AllBytes (encode f) → Fits rd f → (c : Counts) × (sheet_check rd (encode f) ≡ done c)
 unfolding sheet_check
 accepted rd f b F =
     let w = whole_fits rd f b F in
@@ -98,11 +96,11 @@ faults_and_forests rd s b = (
   λ x. let bt : AllBytes (encode x.0) = rw x.1 b in let w = accepted rd x.0 bt x.2 in check_accepts rd s b w.0 (rw x.1 at w.1),
 )
   where
-    go : Is rd s (done tt) → (r : Checked) → sheet_check rd s ≡ r → (f : Forest) × (encode f ≡ s) × Fits rd f
-    go i (Accepted c) q = encoded rd s b c q
-    go i (Refused r) q = absurd (i r.number r.place (check_refuses rd s b r q).0)
+    go : Is rd s (done tt) → (r : Answer Counts) → sheet_check rd s ≡ r → (f : Forest) × (encode f ≡ s) × Fits rd f
+    go i (done c) q = encoded rd s b c q
+    go i (refused n p) q = absurd (i n p (check_refuses rd s b n p q).0)
 
-pub accepts_forests : (rd : Reading) (s : List ℕ) (r : Judgement) → AllBytes s → PromiseVerdict rd s r → (told r ≡ done tt) ↔ ((f : Forest) × (encode f ≡ s) × Fits rd f)
+pub accepts_forests : (rd : Reading) (s : List ℕ) (r : Result (Unit {0}) Refusal) → AllBytes s → PromiseVerdict rd s r → (told r ≡ done tt) ↔ ((f : Forest) × (encode f ≡ s) × Fits rd f)
 accepts_forests rd s r b h = Iff.trans (accepts_exactly rd s r h) (faults_and_forests rd s b)
 
 pub has_its_forest : (rd : Reading) (s : List ℕ) → AllBytes s → Is rd s (done tt) → (encode (forest_of s) ≡ s) × Fits rd (forest_of s)

@@ -8,6 +8,7 @@ use native.Mathlib.Omega.{arith}
 use borrow.Author.Tests.{eqb-true, eq-eqb, lt-ltb, ltb-true, leb-true, leb-false}
 use lib.Dec.{eqb, ltb, leb}
 use lib.ListN.{length, drop, length-append}
+use Rattle.std.specs.Prelude.{Option, Some, None}
 use Rattle.grammar.specs.MeaningReading.{Reading}
 use Rattle.sheet.specs.MeaningName.{is_name}
 use Rattle.grammar.specs.MeaningGrammar.{one_of, expressions, slots_of, Fills, Kind, kind_of, holds_simple, most_bytes, most_depth, Limit, most, counts}
@@ -17,8 +18,6 @@ use Rattle.sheet.specs.Claims.{AllBytes}
 use Rattle.grammar.specs.MirrorTable.{row_count, cell_at, row_of}
 use Rattle.sheet.specs.MirrorCheck.{count_up, no_counts}
 use Rattle.sheet.specs.declared.Counts.{Counts}
-use Rattle.sheet.specs.declared.Counted.{Counted}
-use Rattle.sheet.specs.declared.Counted.TheVariants.{Within, Over}
 use Rattle.grammar.proofs.Choosing.{either, clash}
 use Rattle.sheet.proofs.Deciding.{NoFault, no_fault, faultless}
 use Rattle.grammar.proofs.Tabulated.{Fit, sheet_fit, no_row, end_row, no_end, next_fit, new_fit, class_of, level_of, answer_of_law}
@@ -109,7 +108,7 @@ one_more p t c c1 l q r h = go (counts l p t) refl q
     go true e k = omega (arith, r e)
     go false e k = omega arith
 
-to_whole : (f : Forest) (rd : Reading) (p st d : ℕ) (es : List ℕ) (c c' : Counts) → Fit p es st → AllBytes (encode f) → length (encode f) ≤ most_bytes → fits rd p st d c f ≡ Within c' → Whole rd p st d c c' f
+to_whole : (f : Forest) (rd : Reading) (p st d : ℕ) (es : List ℕ) (c c' : Counts) → Fit p es st → AllBytes (encode f) → length (encode f) ≤ most_bytes → fits rd p st d c f ≡ Some c' → Whole rd p st d c c' f
 unfolding encode field
 to_whole nil rd p st d es c c' F b n q =
     let z = nil_fits rd p st d c c' q in
@@ -169,13 +168,13 @@ has_end p es st F r = go (ltb (row_of p st 256) row_count) refl
     go true e = e
     go false e = absurd (no_end p es st F e (subst (Fills (slots_of p)) (append-nil es) ((F.says []).1 r)))
 
-has_count : (p t : ℕ) (c : Counts) (x : Counted) → AllTallied p t c x → ((l : Limit) → of l c + cond (counts l p t) 1 0 ≤ most l) → (c1 : Counts) × (x ≡ Within c1) × ((l : Limit) → of l c1 ≡ of l c + cond (counts l p t) 1 0)
-has_count p t c (Within c1) q h = (c1, refl, λ l. (q l).0)
-has_count p t c Over (l, q) h = absurd (let z : of l c + 1 ≤ most l = rw q.0 at (h l) in let y : ⊥ = omega (arith, q.1) in y)
+has_count : (p t : ℕ) (c : Counts) (x : Option Counts) → AllTallied p t c x → ((l : Limit) → of l c + cond (counts l p t) 1 0 ≤ most l) → (c1 : Counts) × (x ≡ Some c1) × ((l : Limit) → of l c1 ≡ of l c + cond (counts l p t) 1 0)
+has_count p t c (Some c1) q h = (c1, refl, λ l. (q l).0)
+has_count p t c None (l, q) h = absurd (let z : of l c + 1 ≤ most l = rw q.0 at (h l) in let y : ⊥ = omega (arith, q.1) in y)
 
 from_whole : (f : Forest) (rd : Reading) (p st d : ℕ) (es : List ℕ) (c : Counts) → Fit p es st → AllBytes (encode f) → length (encode f) ≤ most_bytes
     → Fills (drop st (slots_of p)) (tags_in f) → Right rd p f → ((l : Limit) → of l c + total l p f ≤ most l) → height f ≤ d
-    → (c' : Counts) × (fits rd p st d c f ≡ Within c') × ((l : Limit) → of l c' ≡ of l c + total l p f)
+    → (c' : Counts) × (fits rd p st d c f ≡ Some c') × ((l : Limit) → of l c' ≡ of l c + total l p f)
 unfolding encode field
 from_whole nil rd p st d es c F b n r x h k = (c, fits_nil rd p st d c (has_end p es st F r), λ l. omega arith)
 from_whole (leaf t v f) rd p st d es c F b n r x h k =
@@ -223,12 +222,12 @@ zeros declarations = refl
 zeros constraints = refl
 zeros terms = refl
 
-pub fits_whole : (rd : Reading) (f : Forest) → AllBytes (encode f) → length (encode f) ≤ most_bytes → (c : Counts) → fits rd 0 0 most_depth no_counts f ≡ Within c → Fits rd f
+pub fits_whole : (rd : Reading) (f : Forest) → AllBytes (encode f) → length (encode f) ≤ most_bytes → (c : Counts) → fits rd 0 0 most_depth no_counts f ≡ Some c → Fits rd f
 fits_whole rd f b n c q =
     let w = to_whole f rd 0 0 most_depth [] no_counts c sheet_fit b n q in
     record { filled = w.filled; right = w.right; limits = λ l. (let z = w.kept l (let y : of l no_counts ≤ most l = omega (arith, zeros l) in y) in omega (arith, w.counted l, zeros l)); shallow = w.shallow; short = n }
 
-pub whole_fits : (rd : Reading) (f : Forest) → AllBytes (encode f) → Fits rd f → (c : Counts) × (fits rd 0 0 most_depth no_counts f ≡ Within c)
+pub whole_fits : (rd : Reading) (f : Forest) → AllBytes (encode f) → Fits rd f → (c : Counts) × (fits rd 0 0 most_depth no_counts f ≡ Some c)
 whole_fits rd f b F =
     let w = from_whole f rd 0 0 most_depth [] no_counts sheet_fit b F.short F.filled F.right (λ l. omega (arith, zeros l, F.limits l)) F.shallow in
     (w.0, w.1)

@@ -33,8 +33,8 @@ use Rattle.gathering.specs.MeaningGathering.{through, supers_of, subtype, step_c
 use Rattle.records.specs.MirrorRecords.{behind, number_meant, own_number, schema_named}
 use Rattle.gathering.specs.MirrorGathering.{sum, highest, rule_size, rule_level, super_size, constraint_size, constraint_level, rules_size, supers_size, constraints_size, schema_level, rule_kept, rules_kept, constraint_kept, constraints_kept}
 use Rattle.gathering.specs.MirrorWalk.{super_kept, item_kept, all_kept, item_size, item_level, items_size, items_level, all_size, all_level}
-use Rattle.gathering.specs.declared.Pass.{Pass}
-use Rattle.gathering.specs.declared.Pass.TheVariants.{Rules, Constraints, Subtypes}
+use Rattle.gathering.specs.MirrorWalk.{Step}
+use Rattle.gathering.specs.MirrorWalk.Step.{Rules, Constraints, Subtypes}
 use Rattle.records.proofs.Following.{Follows, has, has_not, follow_mapped}
 use Rattle.gathering.proofs.Following.{follow_through}
 use Rattle.gathering.proofs.Renaming.{map_last}
@@ -105,7 +105,7 @@ module _ (rd : Reading) (xs : List Schema) where
         by (done p) i = i (behind cs p (reference own))
         by (refused n p) i = refl
 
-    item_alike : (k : Pass) (p : ℕ) (g : Tree) (cs : List (Combined ℕ)) → item_kept rd xs k x p g cs ≡ item_kept rd xs k (schema_named x.name.bytes) p g cs
+    item_alike : (k : Step) (p : ℕ) (g : Tree) (cs : List (Combined ℕ)) → item_kept rd xs k x p g cs ≡ item_kept rd xs k (schema_named x.name.bytes) p g cs
     unfolding item_kept
     item_alike Rules p g cs = rule_alike p g (rule_of rd (mark_of g)) cs
     item_alike Constraints p g cs = constraint_alike p g (expr_of g) cs
@@ -203,12 +203,12 @@ pub supers_size_law : (T : Tree) → all_size Subtypes T ≤ sum supers_size (sc
 unfolding schemas_of supers_size schema_of all_size items_size item_size super_size entity_of
 supers_size_law T = sum_each 0x01 schema_of supers_size _ (λ p g. sum_each 0x30 entity_of super_size _ (λ q h. le_refl _) g) T
 
-items_level_law : (k : Pass) (p : ℕ) (g : Tree) → items_level k g ≤ schema_level (schema_of p g)
+items_level_law : (k : Step) (p : ℕ) (g : Tree) → items_level k g ≤ schema_level (schema_of p g)
 unfolding schema_level schema_of items_level item_level rule_level constraint_level entity_of constraint_of
 items_level_law Rules p g = omega (arith, highest_each 0x30 entity_of rule_level (λ i. item_level Rules i.1) (λ q h. le_refl _) g)
 items_level_law Constraints p g = omega (arith, highest_each 0x40 constraint_of constraint_level (λ i. item_level Constraints i.1) (λ q h. le_refl _) g)
 items_level_law Subtypes p g = omega (arith, highest_each 0x30 entity_of rule_level (λ i. item_level Subtypes i.1) (λ q h. (let z : 0 ≤ rule_level (entity_of q h) = omega arith in z)) g)
 
-pub all_level_law : (k : Pass) (T : Tree) → all_level k T ≤ highest schema_level (schemas_of T)
+pub all_level_law : (k : Step) (T : Tree) → all_level k T ≤ highest schema_level (schemas_of T)
 unfolding schemas_of all_level
 all_level_law k T = highest_each 0x01 schema_of schema_level (λ i. items_level k i.1) (λ p g. items_level_law k p g) T

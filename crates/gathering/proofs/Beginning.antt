@@ -1,4 +1,7 @@
--- Fields that give nothing to resolve are passed over: laws for `given_at`, `first_given` and `in_schema`.
+-- Fields that give nothing to resolve are passed over: laws for `gives`, `first_given` and `in_schema`.
+use Rattle.std.specs.Prelude.{Some, None, Result, Ok, Err, is_some}
+use Rattle.std.specs.Prelude as prelude
+use Rattle.refusal.specs.Told.{told}
 use mathlib.Core.Path.{◌≡◌, refl, sym, ap, ◌∙◌, subst}
 use mathlib.Core.List.{List, [], ◌∷◌}
 use mathlib.Core.Bool.{Bool, true, false, cond}
@@ -12,8 +15,7 @@ use Rattle.refusal.specs.MeaningAnswer.{Answer, done, ◌>>=◌}
 use Rattle.grammar.specs.MeaningReading.{Reading}
 use Rattle.sheet.specs.MeaningName.{Name}
 use Rattle.sheet.specs.MirrorField.{field_at}
-use Rattle.sheet.specs.declared.Header.{Header}
-use Rattle.sheet.specs.declared.Header.TheVariants.{Field, Passes}
+use Rattle.sheet.specs.declared.Field.{Field}
 use Rattle.grammar.proofs.Choosing.{clash}
 use Rattle.schemas.specs.MeaningTree.{Tree, tree_at}
 use Rattle.schemas.specs.MeaningTree.Tree.{nil}
@@ -28,12 +30,11 @@ use Rattle.merging.specs.MeaningMerging.{Combined}
 use Rattle.merging.specs.MirrorStream.{is_found}
 use Rattle.records.specs.MeaningResolving.{rule_of}
 use Rattle.gathering.specs.MeaningGathering.{through, supers_of}
-use Rattle.records.specs.MirrorRecords.{number_meant, own_number, field_then, Meets, no_more, next, SpellsExpr, no_expr, there, Kept, Within, Room, schema_named, told_filled}
+use Rattle.records.specs.MirrorRecords.{number_meant, own_number, field_then, Meets, no_more, next, SpellsExpr, no_expr, there, Kept, Within, Room, schema_named}
 use Rattle.gathering.specs.MirrorGathering.{sum, highest, rule_kept, constraint_kept}
-use Rattle.gathering.specs.MirrorWalk.{tag_for, super_kept, item_kept, items_kept, is_field, is_full, gives, giving, Begins, item_size, item_level, items_size, items_level}
-use Rattle.records.specs.declared.Filled.TheVariants.{To}
-use Rattle.gathering.specs.declared.Pass.{Pass}
-use Rattle.gathering.specs.declared.Pass.TheVariants.{Rules, Constraints, Subtypes}
+use Rattle.gathering.specs.MirrorWalk.{tag_for, super_kept, item_kept, items_kept, is_full, gives, giving, Begins, item_size, item_level, items_size, items_level}
+use Rattle.gathering.specs.MirrorWalk.{Step}
+use Rattle.gathering.specs.MirrorWalk.Step.{Rules, Constraints, Subtypes}
 use Rattle.records.proofs.Seeking.{met, names_sought, names_front, fields_over, fields_parted}
 use Rattle.records.proofs.Records.{kept_none, kept_same}
 use Rattle.gathering.proofs.Records.{less_room}
@@ -42,47 +43,43 @@ use Rattle.gathering.proofs.Walking.{nests_for}
 
 -- ---- whether there is something
 
-spelt_full : (s : List ℕ) (o : Option (Expr Name)) (h : Header) → SpellsExpr s o h → is_field h ≡ is_found o
-unfolding is_field is_found
-spelt_full s o Passes (no_expr z) = rw z refl
-spelt_full s o (Field t a b) (there m) = rw m.is refl
+spelt_full : (s : List ℕ) (o : Option (Expr Name)) (h : prelude.Option Field) → SpellsExpr s o h → is_some h ≡ is_found o
+unfolding is_found
+spelt_full s o None (no_expr z) = rw z refl
+spelt_full s o (Some d) (there m) = rw m.is refl
 
-names_full : (s : List ℕ) (a b : ℕ) (h : Header) → Meets s a b 0x10 0x10 h → is_field h ≡ is_full (names_of (tree_at s a b))
-unfolding is_field is_full names_of
-names_full s a b Passes (no_more z) = rw (names_sought (tree_at s a b), z) refl
-names_full s a b (Field t c d) (next m) =
-    let z : t ≡ 0x10 = omega (arith, m.from, m.to) in
-    let n = names_sought (tree_at s a b) ∙ ap names_of (m.seeks ∙ ap (λ (u : ℕ). field_then s u c d (tree_at s d b)) z) ∙ names_front s c d (omega (arith, m.behind)) (tree_at s d b) in
+names_full : (s : List ℕ) (a b : ℕ) (h : prelude.Option Field) → Meets s a b 0x10 0x10 h → is_some h ≡ is_full (names_of (tree_at s a b))
+unfolding is_full names_of
+names_full s a b None (no_more z) = rw (names_sought (tree_at s a b), z) refl
+names_full s a b (Some d) (next m) =
+    let z : d.tag ≡ 0x10 = omega (arith, m.from, m.to) in
+    let n = names_sought (tree_at s a b) ∙ ap names_of (m.seeks ∙ ap (λ (u : ℕ). field_then s u d.start d.stop (tree_at s d.stop b)) z) ∙ names_front s d.start d.stop (omega (arith, m.behind)) (tree_at s d.stop b) in
     rw n refl
 
-module _ (s : List ℕ) (at e : ℕ) (h : Header) (m : Meets s at e 0x34 0x34 h) where
-  pub super_none : h ≡ Passes → is_field Passes ≡ is_full (supers_of (supertypes_of (tree_at s at e)))
-  unfolding is_field is_full supers_of
-  super_none q = rw (no_names s at e h m q) refl
+module _ (s : List ℕ) (at e : ℕ) (h : prelude.Option Field) (m : Meets s at e 0x34 0x34 h) where
+  pub super_none : h ≡ None → (rd : Reading) → false ≡ gives rd Subtypes (tree_at s at e)
+  unfolding gives is_full supers_of
+  super_none q rd = rw (no_names s at e h m q) refl
 
-  pub super_first : (t a b : ℕ) → h ≡ Field t a b → (k : Header) → Meets s a b 0x10 0x10 k → is_field k ≡ is_full (supers_of (supertypes_of (tree_at s at e)))
-  unfolding supers_of
-  super_first t a b q k n = rw (its_names s at e h m t a b q) (names_full s a b k n)
+  pub super_first : (d : Field) → h ≡ Some d → (k : prelude.Option Field) → Meets s d.start d.stop 0x10 0x10 k → (rd : Reading) → is_some k ≡ gives rd Subtypes (tree_at s at e)
+  unfolding gives supers_of
+  super_first d q k n rd = rw (its_names s at e h m d q) (names_full s d.start d.stop k n)
 
-module _ (rd : Reading) (k : Pass) (g : Tree) (s : List ℕ) (h : Header) where
-  pub given_rule : k ≡ Rules → SpellsExpr s (rule_of rd (mark_of g)) h → is_field h ≡ gives rd k g
+module _ (rd : Reading) (g : Tree) (s : List ℕ) where
+  pub given_rule : (h : prelude.Option Field) → SpellsExpr s (rule_of rd (mark_of g)) h → is_some h ≡ gives rd Rules g
   unfolding gives
-  given_rule q S = rw q (spelt_full s (rule_of rd (mark_of g)) h S)
+  given_rule h S = spelt_full s (rule_of rd (mark_of g)) h S
 
-  pub given_expr : k ≡ Constraints → SpellsExpr s (expr_of g) h → is_field h ≡ gives rd k g
+  pub given_expr : (h : prelude.Option Field) → SpellsExpr s (expr_of g) h → is_some h ≡ gives rd Constraints g
   unfolding gives
-  given_expr q S = rw q (spelt_full s (expr_of g) h S)
+  given_expr h S = spelt_full s (expr_of g) h S
 
-  pub given_super : k ≡ Subtypes → is_field h ≡ is_full (supers_of (supertypes_of g)) → is_field h ≡ gives rd k g
-  unfolding gives
-  given_super q S = rw q S
-
-pub ruleset given_by = (given_rule, given_expr, given_super)
+pub ruleset given_by = (given_rule, given_expr, super_none, super_first)
 
 -- ---- a field that gives nothing adds nothing
 
 module _ (rd : Reading) (xs : List Schema) (x : Schema) where
-  nothing_kept : (k : Pass) (p : ℕ) (g : Tree) → gives rd k g ≡ false → (cs : List (Combined ℕ)) → item_kept rd xs k x p g cs ≡ done cs
+  nothing_kept : (k : Step) (p : ℕ) (g : Tree) → gives rd k g ≡ false → (cs : List (Combined ℕ)) → item_kept rd xs k x p g cs ≡ done cs
   unfolding gives item_kept is_found rule_kept constraint_kept is_full through
   nothing_kept Rules p g q cs = by (rule_of rd (mark_of g)) q
     where
@@ -100,7 +97,7 @@ module _ (rd : Reading) (xs : List Schema) (x : Schema) where
       by [] z = refl
       by (n ∷ ns) z = clash (cc)
 
-  giving_through : (k : Pass) (is : List (ℕ × Tree)) (cs : List (Combined ℕ)) → through (λ (i : ℕ × Tree). item_kept rd xs k x i.0 i.1) (giving rd k is) cs ≡ through (λ (i : ℕ × Tree). item_kept rd xs k x i.0 i.1) is cs
+  giving_through : (k : Step) (is : List (ℕ × Tree)) (cs : List (Combined ℕ)) → through (λ (i : ℕ × Tree). item_kept rd xs k x i.0 i.1) (giving rd k is) cs ≡ through (λ (i : ℕ × Tree). item_kept rd xs k x i.0 i.1) is cs
   unfolding giving through
   giving_through k [] cs = refl
   giving_through k (i ∷ is) cs = by (gives rd k i.1) refl (giving_through k is cs)
@@ -112,7 +109,7 @@ module _ (rd : Reading) (xs : List Schema) (x : Schema) where
       by true q go = refl
       by false q go = rw (nothing_kept k i.0 i.1 q cs) go
 
-module _ (rd : Reading) (k : Pass) (c : ℕ × Tree → ℕ) where
+module _ (rd : Reading) (k : Step) (c : ℕ × Tree → ℕ) where
   giving_sum : (is : List (ℕ × Tree)) → sum c (giving rd k is) ≤ sum c is
   unfolding giving sum
   giving_sum [] = le_refl 0
@@ -133,44 +130,44 @@ module _ (rd : Reading) (k : Pass) (c : ℕ × Tree → ℕ) where
 
 -- ---- `first_given`
 
-pub record Passing (rd : Reading) (k : Pass) (s : List ℕ) (at e tag from : ℕ) : Type 0 where
+pub record Passing (rd : Reading) (k : Step) (s : List ℕ) (at e tag from : ℕ) : Type 0 where
   pub inside : from ≤ e
   pub fits_in : e ≤ length s
   pub tagged : tag ≡ tag_for k
   pub rest : giving rd k (each (tag_for k) itself (tree_at s at e)) ≡ giving rd k (each (tag_for k) itself (tree_at s from e))
 
-pub pass_start : (rd : Reading) (k : Pass) (s : List ℕ) (at e tag : ℕ) → at ≤ e → e ≤ length s → tag ≡ tag_for k → Passing rd k s at e tag at
+pub pass_start : (rd : Reading) (k : Step) (s : List ℕ) (at e tag : ℕ) → at ≤ e → e ≤ length s → tag ≡ tag_for k → Passing rd k s at e tag at
 pass_start rd k s at e tag i j q = record { inside = i; fits_in = j; tagged = q; rest = refl }
 
 tree_end : (s : List ℕ) (e : ℕ) → tree_at s e e ≡ nil
 unfolding field_at
-tree_end s e = let z : e - e ≡ 0 = omega arith in tree_none s e e Passes (sym (rw z refl)) refl
+tree_end s e = let z : e - e ≡ 0 = omega arith in tree_none s e e None (sym (rw z refl)) refl
 
-module _ (rd : Reading) (k : Pass) (s : List ℕ) (at e tag from : ℕ) (P : Passing rd k s at e tag from) (h : Header) (m : Meets s from e tag tag h) where
-  pub pass_none : h ≡ Passes → Begins rd k s at e e
+module _ (rd : Reading) (k : Step) (s : List ℕ) (at e tag from : ℕ) (P : Passing rd k s at e tag from) (h : prelude.Option Field) (m : Meets s from e tag tag h) where
+  pub pass_none : h ≡ None → Begins rd k s at e e
   unfolding giving each
   pass_none q = record { is = ap (each (tag_for k) itself) (tree_end s e) ∙ sym (P.rest ∙ ap (giving rd k) (fields_over (tag_for k) tag (nests_for k) P.tagged s from e h m q)); within = le_refl e }
 
-  module _ (t a b : ℕ) (q : h ≡ Field t a b) where
-    parted : each (tag_for k) itself (tree_at s from e) ≡ (a - 3, tree_at s a b) ∷ each (tag_for k) itself (tree_at s b e)
-    parted = fields_parted (tag_for k) tag (nests_for k) P.tagged s from e h m t a b q
+  module _ (d : Field) (q : h ≡ Some d) where
+    parted : each (tag_for k) itself (tree_at s from e) ≡ (d.start - 3, tree_at s d.start d.stop) ∷ each (tag_for k) itself (tree_at s d.stop e)
+    parted = fields_parted (tag_for k) tag (nests_for k) P.tagged s from e h m d q
 
-    module _ (g : Header) (G : is_field g ≡ gives rd k (tree_at s a b)) where
-      pub pass_given : (u c d : ℕ) → g ≡ Field u c d → Begins rd k s at e from
-      unfolding giving is_field
-      pass_given u c d z = record { is = sym (P.rest ∙ rw (parted, ← G, z) refl); within = P.inside }
+    module _ (x : Bool) (X : x ≡ gives rd k (tree_at s d.start d.stop)) where
+      pub pass_given : x ≡ true → Begins rd k s at e from
+      unfolding giving
+      pass_given z = record { is = sym (P.rest ∙ rw (parted, ← X, z) refl); within = P.inside }
 
-      pub pass_on : g ≡ Passes → Passing rd k s at e tag b
-      unfolding giving is_field
-      pass_on z = record { inside = (met m t a b q).within; fits_in = P.fits_in; tagged = P.tagged; rest = P.rest ∙ rw (parted, ← G, z) refl }
+      pub pass_on : x ≡ false → Passing rd k s at e tag d.stop
+      unfolding giving
+      pass_on z = record { inside = (met m d q).within; fits_in = P.fits_in; tagged = P.tagged; rest = P.rest ∙ rw (parted, ← X, z) refl }
 
 pub ruleset passing = (pass_start, pass_none, pass_given, pass_on)
 
 -- ---- the name of a schema is the scope in it; where nothing is given, nothing is kept
 
-module _ (rd : Reading) (k : Pass) (s : List ℕ) (at e from used : ℕ) (w₀ : List ℕ) (B : Begins rd k s at e from) (R : Room (items_size k (tree_at s at e)) (items_level k (tree_at s at e)) used w₀) where
-  pub begun_none : (xs : List Schema) → from ≡ e → Kept (items_kept rd xs k (name_of (tree_at s at e)).bytes (tree_at s at e)) (told_filled (To used)) used w₀ w₀
-  unfolding told_filled through each
+module _ (rd : Reading) (k : Step) (s : List ℕ) (at e from used : ℕ) (w₀ : List ℕ) (B : Begins rd k s at e from) (R : Room (items_size k (tree_at s at e)) (items_level k (tree_at s at e)) used w₀) where
+  pub begun_none : (xs : List Schema) → from ≡ e → Kept (items_kept rd xs k (name_of (tree_at s at e)).bytes (tree_at s at e)) (told (Ok used)) used w₀ w₀
+  unfolding through each
   begun_none xs q =
       let z : giving rd k (each (tag_for k) itself (tree_at s at e)) ≡ [] = sym B.is ∙ ap (λ (i : ℕ). each (tag_for k) itself (tree_at s i e)) q ∙ ap (each (tag_for k) itself) (tree_end s e) in
       kept_none used w₀ R.front (λ cs. sym (giving_through rd xs (schema_named (name_of (tree_at s at e)).bytes) k (each (tag_for k) itself (tree_at s at e)) cs) ∙ rw z refl)

@@ -1,4 +1,6 @@
 -- The three passes, one after the other, leave the streams.
+use Rattle.std.specs.Prelude.{Result, Ok, Err}
+use Rattle.refusal.specs.Told.{number_of, told}
 use mathlib.Core.Path.{◌≡◌, refl, sym, ap, ap₂, ◌∙◌, subst}
 use mathlib.Core.List.{List, [], ◌++◌, map}
 use Prim.Native.Nat.{ℕ, ◌+◌, ◌*◌, ◌<◌, ◌≤◌}
@@ -17,29 +19,15 @@ use Rattle.merging.specs.MeaningMerging.{Combined, Pair}
 use Rattle.merging.specs.MirrorStream.{stream_of, paired, pairs_of}
 use Rattle.merging.proofs.Streams.{stream_append}
 use Rattle.gathering.specs.MeaningGathering.{through, step_c}
-use Rattle.records.specs.MirrorRecords.{number_meant, own_number, Stands, Kept, Room, told_filled}
+use Rattle.records.specs.MirrorRecords.{number_meant, own_number, Stands, Kept, Room}
 use Rattle.gathering.specs.MirrorGathering.{Bounded, constraints_kept, streams_of, streams}
 use Rattle.gathering.specs.MirrorWalk.{all_kept, items_size, all_size, all_level, told_gathered, Streamed}
-use Rattle.records.specs.declared.Filled.{Filled}
-use Rattle.records.specs.declared.Filled.TheVariants.{To, Refused}
-use Rattle.gathering.specs.declared.Gathered as gathered
-use Rattle.gathering.specs.declared.Pass.{Pass}
-use Rattle.gathering.specs.declared.Pass.TheVariants.{Rules, Constraints, Subtypes}
+use Rattle.gathering.specs.declared.Streams.{Streams}
+use Rattle.gathering.specs.MirrorWalk.{Step}
+use Rattle.gathering.specs.MirrorWalk.Step.{Rules, Constraints, Subtypes}
 use Rattle.records.proofs.Records.{Became, became, refused_so}
 use Rattle.gathering.proofs.Walking.{through_cheap, items_cheap}
 use Rattle.gathering.proofs.Alike.{all_rules, all_constraints, all_pairs, rules_size_law, constraints_size_law, supers_size_law, all_level_law}
-
--- ---- `finished`
-
-pub finished_so : (rules n : ℕ) (r : Filled) → r ≡ To n → told_gathered (gathered.TheVariants.Done (record { rules = rules; used = n })) ≡ mapped (λ j. (rules, j)) (told_filled r)
-unfolding told_gathered told_filled
-finished_so rules n r q = rw q refl
-
-pub finished_not : (f : ℕ → ℕ × ℕ) (why : Refusal) (r : Filled) → r ≡ Refused why → told_gathered (gathered.TheVariants.Refused why) ≡ mapped f (told_filled r)
-unfolding told_gathered told_filled
-finished_not f why r q = rw q refl
-
-pub ruleset finishing = (finished_so, finished_not)
 
 -- ---- `gather`
 
@@ -74,16 +62,16 @@ module _ (s : List ℕ) where
   unfolding schemas_in
   enough B = omega (arith, B.few, rules_size_law (tree_of s), constraints_size_law (tree_of s), supers_size_law (tree_of s))
 
-  low : (k : Pass) → Bounded (schemas_in s) → all_level k (tree_of s) ≤ 5
+  low : (k : Step) → Bounded (schemas_in s) → all_level k (tree_of s) ≤ 5
   unfolding schemas_in
   low k B = omega (arith, B.low, all_level_law k (tree_of s))
 
-  room_for : (k : Pass) → Bounded (schemas_in s) → all_size k (tree_of s) ≤ 512
+  room_for : (k : Step) → Bounded (schemas_in s) → all_size k (tree_of s) ≤ 512
   room_for Rules B = omega (arith, enough B)
   room_for Constraints B = omega (arith, enough B)
   room_for Subtypes B = omega (arith, enough B)
 
-  pub first_room : (k : Pass) → Bounded (schemas_in s) → (w₀ : List ℕ) → 2048 ≤ length w₀ → length w₀ < 65536 → Room (all_size k (tree_of s)) (all_level k (tree_of s)) 0 w₀
+  pub first_room : (k : Step) → Bounded (schemas_in s) → (w₀ : List ℕ) → 2048 ≤ length w₀ → length w₀ < 65536 → Room (all_size k (tree_of s)) (all_level k (tree_of s)) 0 w₀
   first_room k B w₀ h l = record { front = record { list = []; stands = none_yet w₀ }; room = omega (arith, room_for k B); low = low k B; small = l }
 
 module _ (rd : Reading) (s : List ℕ) where
@@ -109,22 +97,20 @@ module _ (rd : Reading) (s : List ℕ) where
       by (done cs) = ap (λ (o : Answer (List (Combined ℕ))). o >>= λ ds. ending ds) (all_constraints rd xs T cs)
       by (refused n p) = refl
 
-  pass_cheap : (k : Pass) (cs ds : List (Combined ℕ)) → all_kept rd xs k T cs ≡ done ds → length (stream_of ds) ≤ length (stream_of cs) + 4 * all_size k T
+  pass_cheap : (k : Step) (cs ds : List (Combined ℕ)) → all_kept rd xs k T cs ≡ done ds → length (stream_of ds) ≤ length (stream_of cs) + 4 * all_size k T
   unfolding all_size
   pass_cheap k cs ds q = through_cheap _ (λ (i : ℕ × Tree). items_size k i.1) (items_cheap rd xs k) (each 0x01 itself T) cs ds q
 
   module _ (B : Bounded xs) (w₀ : List ℕ) (h : 2048 ≤ length w₀) (l : length w₀ < 65536) where
-    module _ (r : Filled) (w₁ : List ℕ) (K : Kept (all_kept rd xs Rules T) (told_filled r) 0 w₀ w₁) where
-      pub first_refused : (why : Refusal) → r ≡ Refused why → (g : gathered.Gathered) → told_gathered g ≡ mapped (λ j. (0, j)) (told_filled r) → Streamed (streams rd xs) (told_gathered g) w₁
-      unfolding told_filled
-      first_refused why q g e =
-          let z : streams rd xs ≡ refused why.number why.place = passes ∙ ap (λ (o : Answer (List (Combined ℕ))). o >>= λ cs. all_kept rd xs Constraints T cs >>= λ ds. ending ds) (refused_so K [] (none_yet w₀) why.number why.place (ap told_filled q)) in
-          record { says = e ∙ rw (q, z) refl; holds = λ both k. clash (cc) }
+    module _ (r : Result ℕ Refusal) (w₁ : List ℕ) (K : Kept (all_kept rd xs Rules T) (told r) 0 w₀ w₁) where
+      pub first_refused : (why : Refusal) → r ≡ Err why → (k : Result Streams Refusal) → k ≡ Err why → Streamed (streams rd xs) (told_gathered k) w₁
+      first_refused why q k y =
+          let z : streams rd xs ≡ refused (number_of why.reason) why.place = passes ∙ ap (λ (o : Answer (List (Combined ℕ))). o >>= λ cs. all_kept rd xs Constraints T cs >>= λ ds. ending ds) (refused_so K [] (none_yet w₀) (number_of why.reason) why.place (ap told q)) in
+          record { says = rw (y, z) refl; holds = λ both k. clash (cc) }
 
-      module _ (n : ℕ) (q : r ≡ To n) where
+      module _ (n : ℕ) (q : r ≡ Ok n) where
         ruled : Became (all_kept rd xs Rules T) [] n w₁
-        unfolding told_filled
-        ruled = became K [] (none_yet w₀) n (ap told_filled q)
+        ruled = became K [] (none_yet w₀) n (ap told q)
 
         after : n ≤ 4 * all_size Rules T
         unfolding stream_of
@@ -133,17 +119,15 @@ module _ (rd : Reading) (s : List ℕ) where
         pub second_room : length w₁ ≡ length w₀ → Room (all_size Constraints T) (all_level Constraints T) n w₁
         second_room k = record { front = record { list = ruled.list; stands = ruled.stands }; room = omega (arith, enough s B, after); low = low s Constraints B; small = omega arith }
 
-        module _ (r' : Filled) (w₂ : List ℕ) (K' : Kept (all_kept rd xs Constraints T) (told_filled r') n w₁ w₂) where
-          pub second_refused : (why : Refusal) → r' ≡ Refused why → (g : gathered.Gathered) → told_gathered g ≡ mapped (λ j. (0, j)) (told_filled r') → Streamed (streams rd xs) (told_gathered g) w₂
-          unfolding told_filled
-          second_refused why q' g e =
-              let z : streams rd xs ≡ refused why.number why.place = passes ∙ rw (ruled.is, refused_so K' ruled.list ruled.stands why.number why.place (ap told_filled q')) refl in
-              record { says = e ∙ rw (q', z) refl; holds = λ both k. clash (cc) }
+        module _ (r' : Result ℕ Refusal) (w₂ : List ℕ) (K' : Kept (all_kept rd xs Constraints T) (told r') n w₁ w₂) where
+          pub second_refused : (why : Refusal) → r' ≡ Err why → (k : Result Streams Refusal) → k ≡ Err why → Streamed (streams rd xs) (told_gathered k) w₂
+          second_refused why q' k y =
+              let z : streams rd xs ≡ refused (number_of why.reason) why.place = passes ∙ rw (ruled.is, refused_so K' ruled.list ruled.stands (number_of why.reason) why.place (ap told q')) refl in
+              record { says = rw (y, z) refl; holds = λ both k. clash (cc) }
 
-          module _ (m : ℕ) (q' : r' ≡ To m) where
+          module _ (m : ℕ) (q' : r' ≡ Ok m) where
             constrained : Became (all_kept rd xs Constraints T) ruled.list m w₂
-            unfolding told_filled
-            constrained = became K' ruled.list ruled.stands m (ap told_filled q')
+            constrained = became K' ruled.list ruled.stands m (ap told q')
 
             pub third_room : length w₁ ≡ length w₀ → length w₂ ≡ length w₁ → Room (all_size Subtypes T) (all_level Subtypes T) m w₂
             third_room k j =
@@ -157,8 +141,15 @@ module _ (rd : Reading) (s : List ℕ) where
             both_passes : streams rd xs ≡ ending constrained.list
             both_passes = passes ∙ rw (ruled.is, constrained.is) refl
 
-            pub third_done : (r'' : Filled) (w₃ : List ℕ) → Kept (all_kept rd xs Subtypes T) (told_filled r'') m w₂ w₃ → (g : gathered.Gathered) → told_gathered g ≡ mapped (λ j. (m, j)) (told_filled r'') → Streamed (streams rd xs) (told_gathered g) w₃
-            unfolding schemas_in ending
-            third_done r'' w₃ K'' g e = rw both_passes (at_last (all_kept rd xs Subtypes T) constrained.list m w₂ w₃ constrained.stands subtypes (all_pairs rd xs T constrained.list) (told_filled r'') K'' (told_gathered g) e)
+            module _ (r'' : Result ℕ Refusal) (w₃ : List ℕ) (K'' : Kept (all_kept rd xs Subtypes T) (told r'') m w₂ w₃) where
+              third_done : (g : Answer (ℕ × ℕ)) → g ≡ mapped (λ j. (m, j)) (told r'') → Streamed (streams rd xs) g w₃
+              unfolding schemas_in ending
+              third_done g e = rw both_passes (at_last (all_kept rd xs Subtypes T) constrained.list m w₂ w₃ constrained.stands subtypes (all_pairs rd xs T constrained.list) (told r'') K'' g e)
 
-pub ruleset gathering = (first_room, first_refused, second_room, second_refused, third_room, third_done)
+              pub third_refused : (why : Refusal) → r'' ≡ Err why → (k : Result Streams Refusal) → k ≡ Err why → Streamed (streams rd xs) (told_gathered k) w₃
+              third_refused why q'' k y = third_done (told_gathered k) (rw (y, q'') refl)
+
+              pub third_made : (j : ℕ) → r'' ≡ Ok j → Streamed (streams rd xs) (told_gathered (Ok (record { rules = m; used = j }))) w₃
+              third_made j q'' = third_done (told_gathered (Ok (record { rules = m; used = j }))) (rw q'' refl)
+
+pub ruleset gathering = (first_room, first_refused, second_room, second_refused, third_room, third_refused, third_made)

@@ -1,4 +1,7 @@
 -- Records put one after the other: laws for every loop over things that each add to the records, and for those of names in SUBTYPE OF.
+use Rattle.std.specs.Prelude.{Some, None, Result, Ok, Err, is_some}
+use Rattle.std.specs.Prelude as prelude
+use Rattle.refusal.specs.Told.{number_of, told}
 use mathlib.Core.Path.{◌≡◌, refl, sym, ap, ◌∙◌}
 use mathlib.Core.List.{List, [], ◌∷◌, ◌++◌, append_assoc}
 use mathlib.Core.Option.{none, some}
@@ -12,8 +15,7 @@ use Rattle.refusal.specs.MeaningAnswer.{Answer, done, refused, ◌>>=◌}
 use Rattle.refusal.specs.declared.Refusal.{Refusal}
 use Rattle.grammar.specs.MeaningReading.{Reading}
 use Rattle.sheet.specs.MeaningName.{Name}
-use Rattle.sheet.specs.declared.Header.{Header}
-use Rattle.sheet.specs.declared.Header.TheVariants.{Field, Passes}
+use Rattle.sheet.specs.declared.Field.{Field}
 use Rattle.grammar.proofs.Choosing.{clash}
 use Rattle.schemas.specs.MeaningTree.{tree_at}
 use Rattle.schemas.specs.MeaningSchemas.{Schema, names_of, supertypes_of, entity_of}
@@ -21,18 +23,17 @@ use Rattle.scope.specs.MeaningScope.{Scope}
 use Rattle.expression.specs.MeaningExpression.Expr.{reference}
 use Rattle.expression.specs.MirrorNodes.{flat}
 use Rattle.declarations.specs.MeaningNamespace.{scope_in}
+use Rattle.lookup.specs.declared.Span.{Span}
 use Rattle.declarations.specs.MirrorNamespace.{schema_scope}
-use Rattle.declarations.specs.Told.{told_found}
-use Rattle.declarations.specs.declared.Found.{Found}
-use Rattle.declarations.specs.declared.Found.TheVariants as found
 use Rattle.merging.specs.MeaningMerging.{Combined}
 use Rattle.merging.specs.MirrorStream.{stream_of}
 use Rattle.gathering.specs.MeaningGathering.{through, supers_of}
-use Rattle.records.specs.MirrorRecords.{behind, number_meant, own_number, field_then, Meets, word_at, Stands, Kept, Within, Room, schema_named, told_filled}
+use Rattle.declarations.specs.MeaningNamespace.{item_of, path_in}
+use Rattle.records.specs.MeaningResolving.{own_path}
+use Rattle.records.specs.MirrorRecords.{behind, number_meant, own_number, field_then, Meets, word_at, Stands, Kept, Within, Room, schema_named}
 use Rattle.gathering.specs.MirrorGathering.{sum, highest}
 use Rattle.gathering.specs.MirrorWalk.{super_kept, item_kept, item_size, item_level}
-use Rattle.records.specs.declared.Filled.TheVariants.{To, Refused}
-use Rattle.gathering.specs.declared.Pass.TheVariants.{Subtypes}
+use Rattle.gathering.specs.MirrorWalk.Step.{Subtypes}
 use Rattle.records.proofs.Seeking.{met, met_none, supers_sought, supers_front, names_sought, names_front}
 use Rattle.records.proofs.Records.{kept_done, kept_refused, kept_none, kept_same, became, refused_so, behind_is, behind_length}
 use Rattle.gathering.proofs.Records.{less_room}
@@ -144,43 +145,46 @@ pairs_start rd xs w s own at e used w₀ W R =
     let i = sum_ones (names_of (tree_at s at e)) in
     record { inside = W; going = going_start _ one_each none_each (names_of (tree_at s at e)) used w₀ (record { front = R.front; room = rw i.0 R.room; low = omega arith; small = R.small }) }
 
-module _ (rd : Reading) (xs : List Schema) (w s : List ℕ) (own at e used : ℕ) (w₀ : List ℕ) (from n : ℕ) (w₁ : List ℕ) (P : Pairing rd xs w s own at e used w₀ from n w₁) (h : Header) (m : Meets s from e 0x10 0x10 h) where
-  pub pairs_none : h ≡ Passes → Kept (through (super_kept rd xs (schema_scope w) own) (names_of (tree_at s at e))) (told_filled (To n)) used w₀ w₁
-  unfolding told_filled names_of
+module _ (rd : Reading) (xs : List Schema) (w s : List ℕ) (own at e used : ℕ) (w₀ : List ℕ) (from n : ℕ) (w₁ : List ℕ) (P : Pairing rd xs w s own at e used w₀ from n w₁) (h : prelude.Option Field) (m : Meets s from e 0x10 0x10 h) where
+  pub pairs_none : h ≡ None → Kept (through (super_kept rd xs (schema_scope w) own) (names_of (tree_at s at e))) (told (Ok n)) used w₀ w₁
+  unfolding names_of
   pairs_none q = going_done _ one_each none_each (names_of (tree_at s at e)) used w₀ (names_of (tree_at s from e)) n w₁ P.going (names_sought (tree_at s from e) ∙ ap names_of (met_none m q))
 
-  module _ (t a b : ℕ) (q : h ≡ Field t a b) where
-    parted : names_of (tree_at s from e) ≡ word_at s a b ∷ names_of (tree_at s b e)
+  module _ (d : Field) (q : h ≡ Some d) where
+    parted : names_of (tree_at s from e) ≡ word_at s d.start d.stop ∷ names_of (tree_at s d.stop e)
     parted =
-        let x = met m t a b q in
-        let z : t ≡ 0x10 = omega (arith, x.from, x.to) in
-        names_sought (tree_at s from e) ∙ ap names_of (x.seeks ∙ ap (λ (u : ℕ). field_then s u a b (tree_at s b e)) z) ∙ names_front s a b (omega (arith, x.behind)) (tree_at s b e)
+        let x = met m d q in
+        let z : d.tag ≡ 0x10 = omega (arith, x.from, x.to) in
+        names_sought (tree_at s from e) ∙ ap names_of (x.seeks ∙ ap (λ (u : ℕ). field_then s u d.start d.stop (tree_at s d.stop e)) z) ∙ names_front s d.start d.stop (omega (arith, x.behind)) (tree_at s d.stop e)
 
-    pub pair_in : Within s a b
-    pair_in = let x = met m t a b q in record { short = P.inside.short; rising = x.rising; within = omega (arith, x.within, P.inside.within) }
+    pub pair_in : Within s d.start d.stop
+    pair_in = let x = met m d q in record { short = P.inside.short; rising = x.rising; within = omega (arith, x.within, P.inside.within) }
 
     pub pair_fits : n + 4 ≤ length w₁
     unfolding one_each
-    pair_fits = omega (arith, (going_room _ one_each none_each (names_of (tree_at s at e)) used w₀ (names_of (tree_at s from e)) n w₁ P.going (word_at s a b) (names_of (tree_at s b e)) parted).room)
+    pair_fits = omega (arith, (going_room _ one_each none_each (names_of (tree_at s at e)) used w₀ (names_of (tree_at s from e)) n w₁ P.going (word_at s d.start d.stop) (names_of (tree_at s d.stop e)) parted).room)
 
     pub pair_small : length w₁ < 65536
     pair_small = P.going.small
 
-    module _ (f : Found) (F : told_found f ≡ number_meant rd xs (schema_scope w) (word_at s a b)) where
-      pub pair_lost : (why : Refusal) → f ≡ found.Refused why → Kept (through (super_kept rd xs (schema_scope w) own) (names_of (tree_at s at e))) (told_filled (Refused why)) used w₀ w₁
-      unfolding told_filled told_found super_kept
-      pair_lost why z =
-          going_refused _ one_each none_each (names_of (tree_at s at e)) used w₀ (names_of (tree_at s from e)) n w₁ P.going (word_at s a b) (names_of (tree_at s b e)) parted w₁ (refused why.number why.place)
-          (kept_refused w₁ P.going.list why.number why.place P.going.stands (rw (← F, z) refl)) why.number why.place refl
+    module _ (i : Span) (I : i ≡ record { start = d.start; stop = d.stop }) (f : Result ℕ Refusal) (Q : told f ≡ number_meant rd xs (schema_scope w) (word_at s i.start i.stop)) where
+      F : told f ≡ number_meant rd xs (schema_scope w) (word_at s d.start d.stop)
+      F = rw I at Q
 
-      pub pair_next : (p : ℕ) → f ≡ found.Number p → (j : ℕ) (w₂ : List ℕ) → j ≡ n + 4 → take (n + 4) w₂ ≡ take n w₁ ++ (p ∷ 0 ∷ own ∷ 3 ∷ []) → length w₂ ≡ length w₁ → Pairing rd xs w s own at e used w₀ b j w₂
-      unfolding told_found super_kept flat
+      pub pair_lost : (why : Refusal) → f ≡ Err why → (k : Result ℕ Refusal) → k ≡ Err why → Kept (through (super_kept rd xs (schema_scope w) own) (names_of (tree_at s at e))) (told k) used w₀ w₁
+      unfolding super_kept
+      pair_lost why z k y =
+          rw y (going_refused _ one_each none_each (names_of (tree_at s at e)) used w₀ (names_of (tree_at s from e)) n w₁ P.going (word_at s d.start d.stop) (names_of (tree_at s d.stop e)) parted w₁ (refused (number_of why.reason) why.place)
+          (kept_refused w₁ P.going.list (number_of why.reason) why.place P.going.stands (rw (← F, z) refl)) (number_of why.reason) why.place refl)
+
+      pub pair_next : (p : ℕ) → f ≡ Ok p → (j : ℕ) (w₂ : List ℕ) → j ≡ n + 4 → take (n + 4) w₂ ≡ take n w₁ ++ (p ∷ 0 ∷ own ∷ 3 ∷ []) → length w₂ ≡ length w₁ → Pairing rd xs w s own at e used w₀ d.stop j w₂
+      unfolding super_kept flat
       pair_next p z j w₂ k y l =
-          let x = met m t a b q in
+          let x = met m d q in
           let cs = P.going.list in
           record {
             inside = record { short = P.inside.short; rising = x.within; within = P.inside.within };
-            going = going_next _ one_each none_each (names_of (tree_at s at e)) used w₀ (names_of (tree_at s from e)) n w₁ P.going (word_at s a b) (names_of (tree_at s b e)) parted w₂ (done j)
+            going = going_next _ one_each none_each (names_of (tree_at s at e)) used w₀ (names_of (tree_at s from e)) n w₁ P.going (word_at s d.start d.stop) (names_of (tree_at s d.stop e)) parted w₂ (done j)
                 (kept_done cs (behind cs p (reference own)) P.going.stands (rw (← F, z) refl) (stood cs P.going.stands)) (super_cheap rd xs (schema_scope w) own) j refl l;
           }
         where
@@ -195,35 +199,35 @@ pub ruleset pairs = (pairs_start, pairs_none, pair_in, pair_fits, pair_small, pa
 
 -- ---- the names in SUBTYPE OF
 
-module _ (s : List ℕ) (at e : ℕ) (h : Header) (m : Meets s at e 0x34 0x34 h) where
-  pub no_names : h ≡ Passes → supertypes_of (tree_at s at e) ≡ none
+module _ (s : List ℕ) (at e : ℕ) (h : prelude.Option Field) (m : Meets s at e 0x34 0x34 h) where
+  pub no_names : h ≡ None → supertypes_of (tree_at s at e) ≡ none
   unfolding supertypes_of
   no_names q = supers_sought (tree_at s at e) ∙ ap supertypes_of (met_none m q)
 
-  pub its_names : (t a b : ℕ) → h ≡ Field t a b → supertypes_of (tree_at s at e) ≡ some (names_of (tree_at s a b))
-  its_names t a b q =
-      let x = met m t a b q in
-      let z : t ≡ 0x34 = omega (arith, x.from, x.to) in
-      supers_sought (tree_at s at e) ∙ ap supertypes_of (x.seeks ∙ ap (λ (u : ℕ). field_then s u a b (tree_at s b e)) z) ∙ supers_front s a b (omega (arith, x.behind)) (tree_at s b e)
+  pub its_names : (d : Field) → h ≡ Some d → supertypes_of (tree_at s at e) ≡ some (names_of (tree_at s d.start d.stop))
+  its_names d q =
+      let x = met m d q in
+      let z : d.tag ≡ 0x34 = omega (arith, x.from, x.to) in
+      supers_sought (tree_at s at e) ∙ ap supertypes_of (x.seeks ∙ ap (λ (u : ℕ). field_then s u d.start d.stop (tree_at s d.stop e)) z) ∙ supers_front s d.start d.stop (omega (arith, x.behind)) (tree_at s d.stop e)
 
--- ---- `subtypes_of`
+-- ---- the records of an entity
 
-module _ (s : List ℕ) (at e used : ℕ) (w₀ : List ℕ) (R : Room (item_size Subtypes (tree_at s at e)) (item_level Subtypes (tree_at s at e)) used w₀) (h : Header) (m : Meets s at e 0x34 0x34 h) where
-  pub sub_skip : (rd : Reading) (xs : List Schema) (w : List ℕ) → h ≡ Passes → Kept (item_kept rd xs Subtypes (schema_named w) 0 (tree_at s at e)) (told_filled (To used)) used w₀ w₀
-  unfolding item_kept supers_of through told_filled
-  sub_skip rd xs w q = let z = no_names s at e h m q in kept_none used w₀ R.front (λ cs. rw z refl)
+module _ (s : List ℕ) (at e used : ℕ) (w₀ : List ℕ) (R : Room (item_size Subtypes (tree_at s at e)) (item_level Subtypes (tree_at s at e)) used w₀) (h : prelude.Option Field) (m : Meets s at e 0x34 0x34 h) where
+  pub sub_skip : (rd : Reading) (xs : List Schema) (w : List ℕ) (place : ℕ) → h ≡ None → Kept (item_kept rd xs Subtypes (schema_named w) place (tree_at s at e)) (told (Ok used)) used w₀ w₀
+  unfolding item_kept supers_of through
+  sub_skip rd xs w place q = let z = no_names s at e h m q in kept_none used w₀ R.front (λ cs. rw z refl)
 
-  module _ (t a b : ℕ) (q : h ≡ Field t a b) where
-    pub sub_in : Within s at e → Within s a b
-    sub_in W = let x = met m t a b q in record { short = W.short; rising = x.rising; within = omega (arith, x.within, W.within) }
+  module _ (d : Field) (q : h ≡ Some d) where
+    pub sub_in : Within s at e → Within s d.start d.stop
+    sub_in W = let x = met m d q in record { short = W.short; rising = x.rising; within = omega (arith, x.within, W.within) }
 
-    pub sub_room : Room (length (names_of (tree_at s a b))) 0 used w₀
+    pub sub_room : Room (length (names_of (tree_at s d.start d.stop))) 0 used w₀
     unfolding item_size item_level supers_of
-    sub_room = less_room R (rw (its_names s at e h m t a b q) (le_refl (length (names_of (tree_at s a b))))) (le_refl 0)
+    sub_room = less_room R (rw (its_names s at e h m d q) (le_refl (length (names_of (tree_at s d.start d.stop))))) (le_refl 0)
 
-    pub sub_made : (rd : Reading) (xs : List Schema) (w : List ℕ) (own : ℕ) → own ≡ own_number rd xs (schema_named w) (entity_of 0 (tree_at s at e)) → (r : Answer ℕ) (w₁ : List ℕ)
-        → Kept (through (super_kept rd xs (schema_scope w) own) (names_of (tree_at s a b))) r used w₀ w₁ → Kept (item_kept rd xs Subtypes (schema_named w) 0 (tree_at s at e)) r used w₀ w₁
-    unfolding item_kept supers_of scope_in schema_named schema_scope
-    sub_made rd xs w own O r w₁ K = kept_same _ (λ cs. sym (rw (its_names s at e h m t a b q, O) refl)) K
+    pub sub_made : (rd : Reading) (xs : List Schema) (w : List ℕ) (place own : ℕ) → own ≡ own_number rd xs (schema_named w) (entity_of 0 (tree_at s at e)) → (r : Answer ℕ) (w₁ : List ℕ)
+        → Kept (through (super_kept rd xs (schema_scope w) own) (names_of (tree_at s d.start d.stop))) r used w₀ w₁ → Kept (item_kept rd xs Subtypes (schema_named w) place (tree_at s at e)) r used w₀ w₁
+    unfolding item_kept supers_of scope_in schema_named schema_scope own_number own_path path_in item_of entity_of
+    sub_made rd xs w place own O r w₁ K = kept_same _ (λ cs. sym (rw (its_names s at e h m d q, O) refl)) K
 
 pub ruleset subtyping = (sub_skip, sub_in, sub_room, sub_made)

@@ -1,5 +1,8 @@
 -- The passes: loops over the fields with a tag, each of which adds to the records.
-use mathlib.Core.Path.{◌≡◌, refl, sym, ap, subst}
+use Rattle.std.specs.Prelude.{Some, None, Result, Ok, Err, is_some}
+use Rattle.std.specs.Prelude as prelude
+use Rattle.refusal.specs.Told.{number_of, told}
+use mathlib.Core.Path.{◌≡◌, refl, ap}
 use mathlib.Core.List.{List, [], ◌∷◌}
 use mathlib.Core.Bool.{true}
 use mathlib.Core.Option.{Option, none, some}
@@ -13,8 +16,7 @@ use Rattle.refusal.specs.declared.Refusal.{Refusal}
 use Rattle.grammar.specs.MeaningReading.{Reading}
 use Rattle.sheet.specs.MeaningName.{Name}
 use Rattle.grammar.specs.MeaningGrammar.{kind_of, one_of}
-use Rattle.sheet.specs.declared.Header.{Header}
-use Rattle.sheet.specs.declared.Header.TheVariants.{Field, Passes}
+use Rattle.sheet.specs.declared.Field.{Field}
 use Rattle.grammar.proofs.Choosing.{clash}
 use Rattle.forest.specs.MeaningPlaces.{nests}
 use Rattle.schemas.specs.MeaningTree.{Tree, tree_at, tree_of}
@@ -23,49 +25,23 @@ use Rattle.scope.specs.MeaningScope.{Scope}
 use Rattle.expression.specs.MeaningExpression.{Expr}
 use Rattle.expression.specs.MirrorNodes.{flat, height}
 use Rattle.lookup.specs.MirrorLookup.{itself}
-use Rattle.declarations.specs.MeaningNamespace.{scope_in, item_of, path_in}
+use Rattle.declarations.specs.MeaningNamespace.{scope_in}
 use Rattle.merging.specs.MeaningMerging.{Combined, find, vacant}
 use Rattle.merging.specs.MirrorStream.{stream_of}
-use Rattle.records.specs.MeaningResolving.{rule_of, resolved_expr, own_path}
+use Rattle.records.specs.MeaningResolving.{rule_of, resolved_expr}
 use Rattle.gathering.specs.MeaningGathering.{through, supers_of}
-use Rattle.records.specs.MirrorRecords.{size, level, behind, number_meant, own_number, Meets, Kept, Within, Room, schema_named, told_filled}
+use Rattle.records.specs.MirrorRecords.{size, level, behind, number_meant, own_number, Meets, Kept, Within, Room, schema_named}
 use Rattle.gathering.specs.MirrorGathering.{given, sum, marked_by, rule_kept, constraint_kept}
 use Rattle.gathering.specs.MirrorWalk.{tag_for, super_kept, item_kept, items_kept, item_size, item_level, items_size, items_level, all_size, all_level}
-use Rattle.records.specs.declared.Filled.{Filled}
-use Rattle.records.specs.declared.Filled.TheVariants.{To, Refused}
-use Rattle.gathering.specs.declared.Pass.{Pass}
-use Rattle.gathering.specs.declared.Pass.TheVariants.{Rules, Constraints, Subtypes}
+use Rattle.gathering.specs.MirrorWalk.{Step}
+use Rattle.gathering.specs.MirrorWalk.Step.{Rules, Constraints, Subtypes}
 use Rattle.records.proofs.Following.{Follows, has, has_not}
 use Rattle.records.proofs.Appending.{expr_sized}
 use Rattle.records.proofs.Nodes.{size_some}
 use Rattle.records.proofs.Seeking.{met, fields_over, fields_parted}
-use Rattle.records.proofs.Records.{behind_length, kept_same}
+use Rattle.records.proofs.Records.{behind_length}
 use Rattle.gathering.proofs.Records.{rule_marked}
 use Rattle.gathering.proofs.Pairs.{Going, Cheap, going_start, going_done, going_room, going_refused, going_next, one_each, sum_ones, super_cheap}
-
--- ---- one field, by the pass
-
-module _ (s : List ℕ) (at e used : ℕ) (w₀ : List ℕ) (k j : Pass) (q : k ≡ j) where
-  pub item_room : Room (item_size k (tree_at s at e)) (item_level k (tree_at s at e)) used w₀ → Room (item_size j (tree_at s at e)) (item_level j (tree_at s at e)) used w₀
-  item_room R = subst (λ (j : Pass). Room (item_size j (tree_at s at e)) (item_level j (tree_at s at e)) used w₀) q R
-
-module _ (rd : Reading) (xs : List Schema) (k : Pass) (x : Schema) (place used : ℕ) (t : Tree) (w₀ w₁ : List ℕ) (r : Answer ℕ) where
-  pub item_rule : k ≡ Rules → Kept (item_kept rd xs Rules x place t) r used w₀ w₁ → Kept (item_kept rd xs k x place t) r used w₀ w₁
-  item_rule q K = subst (λ (k : Pass). Kept (item_kept rd xs k x place t) r used w₀ w₁) (sym q) K
-
-  pub item_constraint : k ≡ Constraints → Kept (item_kept rd xs Constraints x 0 t) r used w₀ w₁ → Kept (item_kept rd xs k x place t) r used w₀ w₁
-  unfolding item_kept constraint_kept constraint_of
-  item_constraint q K = subst (λ (k : Pass). Kept (item_kept rd xs k x place t) r used w₀ w₁) (sym q) (kept_same _ (λ cs. by (expr_of t) cs) K)
-    where
-      by : (o : Option (Expr Name)) (cs : List (Combined ℕ)) → constraint_kept eqb (number_meant rd xs) (own_number rd xs) x (constraint_of 0 t) o cs ≡ constraint_kept eqb (number_meant rd xs) (own_number rd xs) x (constraint_of place t) o cs
-      by none cs = refl
-      by (some e) cs = refl
-
-  pub item_subtypes : k ≡ Subtypes → Kept (item_kept rd xs Subtypes x 0 t) r used w₀ w₁ → Kept (item_kept rd xs k x place t) r used w₀ w₁
-  unfolding item_kept own_number own_path path_in item_of entity_of
-  item_subtypes q K = subst (λ (k : Pass). Kept (item_kept rd xs k x place t) r used w₀ w₁) (sym q) K
-
-pub ruleset dispatching = (item_room, item_rule, item_constraint, item_subtypes)
 
 -- ---- what a field adds is bounded
 
@@ -116,7 +92,7 @@ module _ (rd : Reading) (xs : List Schema) where
       by none k = let z : cs ≡ ds = cc in rw z (omega arith)
       by (some r) k = made r (number_meant rd xs (scope_in x) (constraint_of p g).entity) (resolved_expr (number_meant rd xs) (scope_in x) r) refl k
 
-  pub item_cheap : (k : Pass) (x : Schema) → Cheap (λ (i : ℕ × Tree). item_kept rd xs k x i.0 i.1) (λ i. item_size k i.1)
+  pub item_cheap : (k : Step) (x : Schema) → Cheap (λ (i : ℕ × Tree). item_kept rd xs k x i.0 i.1) (λ i. item_size k i.1)
   unfolding item_kept item_size
   item_cheap Rules x i cs ds q = rule_cheap x i.0 i.1 cs ds q
   item_cheap Constraints x i cs ds q = constraint_cheap x i.0 i.1 cs ds q
@@ -125,7 +101,7 @@ module _ (rd : Reading) (xs : List Schema) where
       let h = through_cheap (super_kept rd xs (scope_in x) (own_number rd xs x (entity_of i.0 i.1))) one_each (super_cheap rd xs (scope_in x) (own_number rd xs x (entity_of i.0 i.1))) (supers_of (supertypes_of i.1)) cs ds q in
       omega arith
 
-  pub items_cheap : (k : Pass) → Cheap (λ (i : ℕ × Tree). items_kept rd xs k (name_of i.1).bytes i.1) (λ i. items_size k i.1)
+  pub items_cheap : (k : Step) → Cheap (λ (i : ℕ × Tree). items_kept rd xs k (name_of i.1).bytes i.1) (λ i. items_size k i.1)
   unfolding items_size
   items_cheap k i cs ds q = through_cheap _ (λ (j : ℕ × Tree). item_size k j.1) (item_cheap k (schema_named (name_of i.1).bytes)) (each (tag_for k) itself i.1) cs ds q
 
@@ -138,13 +114,13 @@ pub record Fields (f : ℕ × Tree → List (Combined ℕ) → Answer (List (Com
   pub cheap : Cheap f c
   pub going : Going f c l (each u itself (tree_at s at e)) (each u itself (tree_at s from e)) used w₀ n w₁
 
-pub nests_for : (k : Pass) → nests (tag_for k) ≡ true
+pub nests_for : (k : Step) → nests (tag_for k) ≡ true
 unfolding kind_of one_of
 nests_for Rules = refl
 nests_for Constraints = refl
 nests_for Subtypes = refl
 
-pub items_start : (rd : Reading) (xs : List Schema) (k : Pass) (w s : List ℕ) (tag at e used : ℕ) (w₀ : List ℕ) → tag ≡ tag_for k → Within s at e → Room (items_size k (tree_at s at e)) (items_level k (tree_at s at e)) used w₀
+pub items_start : (rd : Reading) (xs : List Schema) (k : Step) (w s : List ℕ) (tag at e used : ℕ) (w₀ : List ℕ) → tag ≡ tag_for k → Within s at e → Room (items_size k (tree_at s at e)) (items_level k (tree_at s at e)) used w₀
     → Fields (λ i. item_kept rd xs k (schema_named w) i.0 i.1) (λ i. item_size k i.1) (λ i. item_level k i.1) (tag_for k) tag s at e used w₀ at used w₀
 unfolding items_size items_level
 items_start rd xs k w s tag at e used w₀ q W R =
@@ -154,7 +130,7 @@ nests_schema : nests 0x01 ≡ true
 unfolding kind_of one_of
 nests_schema = refl
 
-pub all_start : (rd : Reading) (xs : List Schema) (k : Pass) (s : List ℕ) (used : ℕ) (w₀ : List ℕ) → length s ≤ 65535 → Room (all_size k (tree_of s)) (all_level k (tree_of s)) used w₀
+pub all_start : (rd : Reading) (xs : List Schema) (k : Step) (s : List ℕ) (used : ℕ) (w₀ : List ℕ) → length s ≤ 65535 → Room (all_size k (tree_of s)) (all_level k (tree_of s)) used w₀
     → Fields (λ i. items_kept rd xs k (name_of i.1).bytes i.1) (λ i. items_size k i.1) (λ i. items_level k i.1) 0x01 0x01 s 0 (length s) used w₀ 0 used w₀
 unfolding tree_of all_size all_level
 all_start rd xs k s used w₀ h R =
@@ -167,51 +143,48 @@ all_start rd xs k s used w₀ h R =
     }
 
 module _ (f : ℕ × Tree → List (Combined ℕ) → Answer (List (Combined ℕ))) (c l : ℕ × Tree → ℕ) (u tag : ℕ) (s : List ℕ) (at e used : ℕ) (w₀ : List ℕ) (from n : ℕ) (w₁ : List ℕ)
-    (G : Fields f c l u tag s at e used w₀ from n w₁) (h : Header) (m : Meets s from e tag tag h) where
-  pub fields_none : h ≡ Passes → Kept (through f (each u itself (tree_at s at e))) (told_filled (To n)) used w₀ w₁
-  unfolding told_filled
+    (G : Fields f c l u tag s at e used w₀ from n w₁) (h : prelude.Option Field) (m : Meets s from e tag tag h) where
+  pub fields_none : h ≡ None → Kept (through f (each u itself (tree_at s at e))) (told (Ok n)) used w₀ w₁
   fields_none q = going_done f c l (each u itself (tree_at s at e)) used w₀ (each u itself (tree_at s from e)) n w₁ G.going (fields_over u tag G.nested G.tagged s from e h m q)
 
-  module _ (t a b : ℕ) (q : h ≡ Field t a b) where
-    parted : each u itself (tree_at s from e) ≡ (a - 3, tree_at s a b) ∷ each u itself (tree_at s b e)
-    parted = fields_parted u tag G.nested G.tagged s from e h m t a b q
+  module _ (d : Field) (q : h ≡ Some d) where
+    parted : each u itself (tree_at s from e) ≡ (d.start - 3, tree_at s d.start d.stop) ∷ each u itself (tree_at s d.stop e)
+    parted = fields_parted u tag G.nested G.tagged s from e h m d q
 
-    pub fields_place : 3 ≤ a
-    fields_place = omega (arith, (met m t a b q).behind)
+    pub fields_place : 3 ≤ d.start
+    fields_place = omega (arith, (met m d q).behind)
 
-    pub fields_in : Within s a b
-    fields_in = let x = met m t a b q in record { short = G.inside.short; rising = x.rising; within = omega (arith, x.within, G.inside.within) }
+    pub fields_in : Within s d.start d.stop
+    fields_in = let x = met m d q in record { short = G.inside.short; rising = x.rising; within = omega (arith, x.within, G.inside.within) }
 
-    fields_room : Room (c (a - 3, tree_at s a b)) (l (a - 3, tree_at s a b)) n w₁
-    fields_room = going_room f c l (each u itself (tree_at s at e)) used w₀ (each u itself (tree_at s from e)) n w₁ G.going (a - 3, tree_at s a b) (each u itself (tree_at s b e)) parted
+    fields_room : Room (c (d.start - 3, tree_at s d.start d.stop)) (l (d.start - 3, tree_at s d.start d.stop)) n w₁
+    fields_room = going_room f c l (each u itself (tree_at s at e)) used w₀ (each u itself (tree_at s from e)) n w₁ G.going (d.start - 3, tree_at s d.start d.stop) (each u itself (tree_at s d.stop e)) parted
 
-    module _ (r : Filled) (w₂ : List ℕ) (K : Kept (f (a - 3, tree_at s a b)) (told_filled r) n w₁ w₂) where
-      pub fields_handed : (why : Refusal) → r ≡ Refused why → Kept (through f (each u itself (tree_at s at e))) (told_filled r) used w₀ w₂
-      unfolding told_filled
+    module _ (r : Result ℕ Refusal) (w₂ : List ℕ) (K : Kept (f (d.start - 3, tree_at s d.start d.stop)) (told r) n w₁ w₂) where
+      pub fields_handed : (why : Refusal) → r ≡ Err why → Kept (through f (each u itself (tree_at s at e))) (told r) used w₀ w₂
       fields_handed why z =
-          rw z (going_refused f c l (each u itself (tree_at s at e)) used w₀ (each u itself (tree_at s from e)) n w₁ G.going (a - 3, tree_at s a b) (each u itself (tree_at s b e)) parted w₂ (told_filled r) K why.number why.place (ap told_filled z))
+          rw z (going_refused f c l (each u itself (tree_at s at e)) used w₀ (each u itself (tree_at s from e)) n w₁ G.going (d.start - 3, tree_at s d.start d.stop) (each u itself (tree_at s d.stop e)) parted w₂ (told r) K (number_of why.reason) why.place (ap told z))
 
-      pub fields_next : (j : ℕ) → r ≡ To j → length w₂ ≡ length w₁ → Fields f c l u tag s at e used w₀ b j w₂
-      unfolding told_filled
+      pub fields_next : (j : ℕ) → r ≡ Ok j → length w₂ ≡ length w₁ → Fields f c l u tag s at e used w₀ d.stop j w₂
       fields_next j z k =
-          let x = met m t a b q in
+          let x = met m d q in
           record {
             inside = record { short = G.inside.short; rising = x.within; within = G.inside.within };
             nested = G.nested;
             tagged = G.tagged;
             cheap = G.cheap;
-            going = going_next f c l (each u itself (tree_at s at e)) used w₀ (each u itself (tree_at s from e)) n w₁ G.going (a - 3, tree_at s a b) (each u itself (tree_at s b e)) parted w₂ (told_filled r) K G.cheap j (ap told_filled z) k;
+            going = going_next f c l (each u itself (tree_at s at e)) used w₀ (each u itself (tree_at s from e)) n w₁ G.going (d.start - 3, tree_at s d.start d.stop) (each u itself (tree_at s d.stop e)) parted w₂ (told r) K G.cheap j (ap told z) k;
           }
 
-pub items_room : (rd : Reading) (xs : List Schema) (k : Pass) (w s : List ℕ) (tag at e used : ℕ) (w₀ : List ℕ) (from n : ℕ) (w₁ : List ℕ)
-    → Fields (λ i. item_kept rd xs k (schema_named w) i.0 i.1) (λ i. item_size k i.1) (λ i. item_level k i.1) (tag_for k) tag s at e used w₀ from n w₁ → (h : Header) → Meets s from e tag tag h → (t a b : ℕ) → h ≡ Field t a b
-    → Room (item_size k (tree_at s a b)) (item_level k (tree_at s a b)) n w₁
-items_room rd xs k w s tag at e used w₀ from n w₁ G h m t a b q = fields_room _ _ _ (tag_for k) tag s at e used w₀ from n w₁ G h m t a b q
+pub items_room : (rd : Reading) (xs : List Schema) (k : Step) (w s : List ℕ) (tag at e used : ℕ) (w₀ : List ℕ) (from n : ℕ) (w₁ : List ℕ)
+    → Fields (λ i. item_kept rd xs k (schema_named w) i.0 i.1) (λ i. item_size k i.1) (λ i. item_level k i.1) (tag_for k) tag s at e used w₀ from n w₁ → (h : prelude.Option Field) → Meets s from e tag tag h → (d : Field) → h ≡ Some d
+    → Room (item_size k (tree_at s d.start d.stop)) (item_level k (tree_at s d.start d.stop)) n w₁
+items_room rd xs k w s tag at e used w₀ from n w₁ G h m d q = fields_room _ _ _ (tag_for k) tag s at e used w₀ from n w₁ G h m d q
 
-pub all_room : (rd : Reading) (xs : List Schema) (k : Pass) (s : List ℕ) (at e used : ℕ) (w₀ : List ℕ) (from n : ℕ) (w₁ : List ℕ)
-    → Fields (λ i. items_kept rd xs k (name_of i.1).bytes i.1) (λ i. items_size k i.1) (λ i. items_level k i.1) 0x01 0x01 s at e used w₀ from n w₁ → (h : Header) → Meets s from e 0x01 0x01 h → (t a b : ℕ) → h ≡ Field t a b
-    → Room (items_size k (tree_at s a b)) (items_level k (tree_at s a b)) n w₁
-all_room rd xs k s at e used w₀ from n w₁ G h m t a b q = fields_room _ _ _ 0x01 0x01 s at e used w₀ from n w₁ G h m t a b q
+pub all_room : (rd : Reading) (xs : List Schema) (k : Step) (s : List ℕ) (at e used : ℕ) (w₀ : List ℕ) (from n : ℕ) (w₁ : List ℕ)
+    → Fields (λ i. items_kept rd xs k (name_of i.1).bytes i.1) (λ i. items_size k i.1) (λ i. items_level k i.1) 0x01 0x01 s at e used w₀ from n w₁ → (h : prelude.Option Field) → Meets s from e 0x01 0x01 h → (d : Field) → h ≡ Some d
+    → Room (items_size k (tree_at s d.start d.stop)) (items_level k (tree_at s d.start d.stop)) n w₁
+all_room rd xs k s at e used w₀ from n w₁ G h m d q = fields_room _ _ _ 0x01 0x01 s at e used w₀ from n w₁ G h m d q
 
 pub ruleset walking = (items_start, all_start, fields_none, fields_place, fields_in, items_room, all_room, fields_handed, fields_next)
 

@@ -1,53 +1,21 @@
--- The row that serves: a law for each way through `row_serves` and the loops of `first_row` and `row_of`, and what the row found is.
+-- The row that serves: what the searches of `first_row` and `row_of` find, and what the row found is.
 use mathlib.Core.Path.{◌≡◌, refl, sym, ◌∙◌}
 use mathlib.Core.List.{List, [], ◌∷◌, map}
-use mathlib.Core.Bool.{Bool, true, false, cond, not, ◌&&◌}
-use Prim.Native.Nat.{ℕ, zero, suc, ◌+◌, ◌<◌, ◌≤◌}
+use mathlib.Core.Bool.{Bool, true, false, cond, ◌&&◌}
+use Prim.Native.Nat.{ℕ, zero, suc, ◌+◌, ◌-◌, ◌<◌, ◌≤◌}
 use native.Mathlib.Nat.{not-suc-le-zero, le_of_suc-le-suc}
 use native.Mathlib.Numerals.{add-one}
 use native.Mathlib.Omega.{arith}
-use borrow.Author.Tests.{eqb-true, ltb-true, eq-eqb, ne_eqb, le-leb, lt-leb, not-true, not-false}
+use borrow.Author.Tests.{eqb-true, ltb-true, ltb-false, lt-ltb, le-ltb}
+use Rattle.std.specs.Prelude.{Option, Some, None, MatchOption, unwrap_or}
 use lib.Dec.{eqb, ltb, leb}
 use lib.ListN.{length, get_or, drop}
 use lib.Seq.{drop-cons}
 use Rattle.grammar.specs.MirrorRows.{rows}
-use Rattle.grammar.specs.MirrorTable.{row_count, cell_at, belongs, serves, first, first_row, row_of}
-use Rattle.grammar.proofs.Choosing.{both}
+use Rattle.grammar.specs.MirrorTable.{row_count, cell_at, belongs, serves, first, in_table, first_row, row_of}
+use Rattle.grammar.proofs.Choosing.{both, clash}
 
--- ---- the lent table
-
-pub cell_lent : (table : List (List ℕ)) (i j : ℕ) → table ≡ rows → get_or (get_or table i []) j 0 ≡ cell_at i j
-unfolding cell_at
-cell_lent table i j h = rw h refl
-
--- ---- the tests of one row
-
-pub belong : (i p x : ℕ) → x ≡ cell_at i 0 → eqb x p ≡ belongs p (get_or rows i [])
-unfolding belongs cell_at
-belong i p x q = rw q refl
-
-module _ (i p st t : ℕ) (b : Bool) (q : b ≡ belongs p (get_or rows i [])) where
-  pub serve_parent : not b ≡ true → false ≡ serves p st t (get_or rows i [])
-  unfolding serves
-  serve_parent h = simp (sym q ∙ not-true b h)
-
-  module _ (h : not b ≡ false) (y : ℕ) (u : y ≡ cell_at i 1) where
-    pub serve_tag : (y ≡ t → ⊥) → false ≡ serves p st t (get_or rows i [])
-    unfolding serves cell_at
-    serve_tag k = rw (← u) (simp (sym q ∙ not-false b h, ne_eqb y t k))
-
-    module _ (k : y ≡ t) (z : ℕ) (v : z ≡ cell_at i 2) where
-      pub serve_early : st < z → false ≡ serves p st t (get_or rows i [])
-      unfolding serves cell_at
-      serve_early l = rw (← u, ← v) (simp (sym q ∙ not-false b h, eq-eqb y t k, lt-leb z st l))
-
-      pub serve_late : z ≤ st → (w : ℕ) → w ≡ cell_at i 3 → leb st w ≡ serves p st t (get_or rows i [])
-      unfolding serves cell_at
-      serve_late l w o = rw (← u, ← v, ← o) (simp (sym q ∙ not-false b h, eq-eqb y t k, le-leb z st l))
-
-pub ruleset serving = (belong, serve_parent, serve_tag, serve_early, serve_late)
-
--- ---- the loops over the rows
+-- ---- the searches over the rows
 
 -- the rows from i on decide the answer r
 pub record Seeking (test : List ℕ → Bool) (i r : ℕ) : Type 0 where
@@ -102,7 +70,62 @@ module _ (test : List ℕ → Bool) (i r : ℕ) (f : Seeking test i r) where
     unfolding first
     seek_next k = let l : i < length rows = rw row_number h in record { inside = omega arith; rest = sym (rw (add-one, drop-cons rows i [] l, sym q ∙ k) refl) ∙ f.rest }
 
-pub ruleset seeking = (seek_first, seek_row, seek_none, seek_found, seek_next)
+-- past rows that fail the test
+seek_on : (test : List ℕ → Bool) (n i r : ℕ) → Seeking test i r → i + n ≤ row_count → ((k : ℕ) → i ≤ k → k < i + n → test (get_or rows k []) ≡ false) → Seeking test (i + n) r
+seek_on test zero i r f h fails = let e : i + zero ≡ i = omega arith in rw e f
+seek_on test (suc n) i r f h fails =
+    let b : i < row_count = omega arith in
+    let e : i + suc n ≡ (i + 1) + n = omega arith in
+    rw e (seek_on test n (i + 1) r (seek_next test i r f b (test (get_or rows i [])) refl (fails i (omega arith) (omega arith))) (omega arith) (λ k u v. fails k (omega arith) (omega arith)))
+
+-- the first row from i on that passes the test, or none
+abbrev pub FirstFrom : (List ℕ → Bool) → ℕ → Option ℕ → Type 0
+FirstFrom test i o =
+    MatchOption o ((k : ℕ) → i ≤ k → k < row_count → test (get_or rows k []) ≡ false)
+    (λ j. (i ≤ j) × (j < row_count) × (test (get_or rows j []) ≡ true) × ((k : ℕ) → i ≤ k → k < j → test (get_or rows k []) ≡ false))
+
+pub first_from : (test : List ℕ → Bool) (i r : ℕ) → Seeking test i r → (o : Option ℕ) → FirstFrom test i o → o ≡ in_table r
+unfolding in_table
+first_from test i r f None fails =
+    let z : i + (row_count - i) ≡ row_count = omega (arith, f.inside) in
+    let g = seek_on test (row_count - i) i r f (omega (arith, f.inside)) (λ k u v. fails k u (omega (arith, f.inside))) in
+    let e = seek_none test (i + (row_count - i)) r g (omega arith) in
+    rw (le-ltb r row_count (omega arith)) refl
+first_from test i r f (Some j) w =
+    let z : i + (j - i) ≡ j = omega (arith, w.0) in
+    let g = seek_on test (j - i) i r f (omega (arith, w.1, w.0)) (λ k u v. w.3 k u (omega (arith, w.0))) in
+    let e : j ≡ r = seek_found test j r (rw z at g) w.1 (test (get_or rows j [])) refl w.2 in
+    rw (← e, lt-ltb j row_count w.1) refl
+
+-- a parent without rows has its first one past the last
+first_inside : (p : ℕ) → first_row p ≤ row_count
+unfolding first_row
+first_inside p = let z = skip (belongs p) (belongs p) (λ x h. h) rows 0 in omega (arith, row_number, z.1, z.2)
+
+pub first_or_past : (p : ℕ) → unwrap_or (in_table (first_row p)) row_count ≡ first_row p
+unfolding in_table
+first_or_past p = go (ltb (first_row p) row_count) refl
+  where
+    go : (b : Bool) → ltb (first_row p) row_count ≡ b → unwrap_or (cond b (Some (first_row p)) None) row_count ≡ first_row p
+    go true e = refl
+    go false e = omega (arith, ltb-false (first_row p) row_count e, first_inside p)
+
+-- the row that is found
+pub row_found : (r i : ℕ) → in_table r ≡ Some i → (i < row_count) × (r ≡ i)
+unfolding in_table
+row_found r i q = go (ltb r row_count) refl q
+  where
+    go : (b : Bool) → ltb r row_count ≡ b → ◌≡◌ {A = Option ℕ} (cond b (Some r) None) (Some i) → (i < row_count) × (r ≡ i)
+    go true e k = let z : r ≡ i = cc in (rw (← z) (ltb-true r row_count e), z)
+    go false e k = let z : ◌≡◌ {A = Option ℕ} None (Some i) = k in clash (cc)
+
+pub row_missing : (r : ℕ) → in_table r ≡ None → row_count ≤ r
+unfolding in_table
+row_missing r q = go (ltb r row_count) refl q
+  where
+    go : (b : Bool) → ltb r row_count ≡ b → ◌≡◌ {A = Option ℕ} (cond b (Some r) None) None → row_count ≤ r
+    go true e k = let z : ◌≡◌ {A = Option ℕ} (Some r) None = k in clash (cc)
+    go false e k = ltb-false r row_count e
 
 -- ---- what the first row that serves is
 
@@ -155,11 +178,11 @@ mapped f g d (x ∷ xs) q (suc k) h = mapped f g d xs (cc) k (le_of_suc-le-suc h
 pub at_row : {Y : Type 0} (f g : List ℕ → Y) → map f rows ≡ map g rows → (i : ℕ) → i < row_count → f (get_or rows i []) ≡ g (get_or rows i [])
 at_row f g q i h = mapped f g [] rows q i (rw row_number h)
 
-answer_test : map (λ (r : List ℕ). ltb (get_or r 10 0) 256) rows ≡ map (λ (r : List ℕ). true) rows
+answer_test : map (λ (r : List ℕ). ltb (get_or r 10 0) 18) rows ≡ map (λ (r : List ℕ). true) rows
 unfolding rows
 answer_test = refl
 
--- a row's answer is a byte
-pub answer_byte : (i x : ℕ) → i < row_count → x ≡ cell_at i 10 → x < 256
+-- a row's answer is 0 or a refusal's number
+pub answer_small : (i x : ℕ) → i < row_count → x ≡ cell_at i 10 → x < 18
 unfolding cell_at
-answer_byte i x h q = rw q (ltb-true (cell_at i 10) 256 (at_row (λ (r : List ℕ). ltb (get_or r 10 0) 256) (λ (r : List ℕ). true) answer_test i h))
+answer_small i x h q = rw q (ltb-true (cell_at i 10) 18 (at_row (λ (r : List ℕ). ltb (get_or r 10 0) 18) (λ (r : List ℕ). true) answer_test i h))

@@ -1,5 +1,5 @@
 -- Looking up a tag in the table.
-use Rattle.std.specs.Prelude.{ℕ, suc, List, [], ◌∷◌, Bool, cond, ◌&&◌, get_or, leb, eqb}
+use Rattle.std.specs.Prelude.{ℕ, suc, List, [], ◌∷◌, Bool, cond, ◌&&◌, get_or, ltb, leb, eqb, Option, Some, None}
 use Rattle.grammar.specs.MeaningReading.{Reading}
 use Rattle.grammar.specs.MeaningReading.Reading.{rust}
 use Rattle.grammar.specs.MirrorRows.{rows}
@@ -28,6 +28,10 @@ serves p st t row = belongs p row && (eqb (get_or row 1 0) t && (leb (get_or row
 unfoldable pub first : (List ℕ → Bool) → List (List ℕ) → ℕ → ℕ
 first test [] i = i
 first test (x ∷ xs) i = cond (test x) i (first test xs (suc i))
+
+-- a row's number, or none past the last
+unfoldable pub in_table : ℕ → Option ℕ
+in_table i = cond (ltb i row_count) (Some i) None
 
 unfoldable pub first_row : ℕ → ℕ
 first_row p = first (belongs p) rows 0

@@ -3,7 +3,7 @@
 
 ghost use Rattle.std.specs.Prelude.{◌≡◌, ◌<◌, [], get_or};
 ghost use Rattle.grammar.specs.MirrorRows.{rows};
-ghost use Rattle.grammar.specs.MirrorTable.{row_count, column_count, cell_at, belongs, serves, first_row, row_of};
+ghost use Rattle.grammar.specs.MirrorTable.{row_count, column_count, cell_at, belongs, serves, in_table, first_row, row_of};
 
 pub const MOST_BYTES: u16 = 65535;
 
@@ -44,7 +44,7 @@ pub const COLUMNS: usize = 11;
 // A tag that no byte is: its row says in which states the parent's value may end.
 pub const END: u16 = 256;
 
-// Kinds of values; 3 is an empty one.
+// Kinds of values, numbers as the cells of the table are; 3 is an empty one.
 pub const FIELDS: u16 = 0;
 
 pub const NAME: u16 = 1;
@@ -53,10 +53,8 @@ pub const SIMPLE: u16 = 2;
 
 pub const ROW_COUNT: usize = 52;
 
-type Table = [[u16; COLUMNS]; ROW_COUNT];
-
 // Every tag with its permitted parents and lengths.
-const ROWS: Table = [
+const ROWS: [[u16; COLUMNS]; ROW_COUNT] = [
     [0x00, 0x01, 0, 0, 0, 0, MOST_BYTES, 0, 1, 0, 0],
     [0x00, END, 0, 1, 0, 0, 0, 3, 0, 0, 0],
     [0x01, 0x10, 0, 0, 1, 1, NAME_BYTES, 1, 0, 0, 0],
@@ -112,70 +110,76 @@ const ROWS: Table = [
 ];
 
 // The table, made once for all that is asked of it: a constant is made anew wherever it is named.
-pub fn rows() -> Table
-    ensures { result ≡ rows }
-{
-    ROWS
+#[derive(Drop)]
+pub struct Table {
+    cells: [[u16; COLUMNS]; ROW_COUNT],
+    pub ghost made: { cells ≡ rows },
 }
 
-// The first row of the parent, or the number of rows.
-pub fn first_row(table: &Table, parent: u16) -> usize
-    requires { table.now ≡ rows }
-    ensures { result ≡ first_row parent }
-{
-    let mut i: usize = 0;
-    while i < ROW_COUNT {
-        if row_belongs(table, i, parent) {
-            return i;
-        }
-        i += 1;
-    }
-    i
+// A parent's tag (0: the sheet), and its first row, or the number of rows: before `first` no row is the parent's.
+#[derive(Clone, Copy)]
+pub struct Parent {
+    pub tag: u16,
+    pub first: usize,
+    pub ghost found: { first ≡ first_row tag },
 }
 
-// The first row for the tag in this state of its parent, or the number of rows. Before `first` no row is the parent's.
-pub fn row_of(table: &Table, parent: u16, first: usize, state: u16, tag: u16) -> usize
-    requires { (table.now ≡ rows) × (first ≡ first_row parent) }
-    ensures { result ≡ row_of parent state tag }
-{
-    let mut i = first;
-    while i < ROW_COUNT {
-        if row_serves(table, i, parent, state, tag) {
-            return i;
-        }
-        i += 1;
+impl Table {
+    pub fn new() -> Self
+        ensures { result.cells ≡ rows }
+    {
+        Self { cells: ROWS }
     }
-    i
-}
 
-// Is the row for this parent and tag, and the state within its bounds?
-fn row_serves(table: &Table, i: usize, parent: u16, state: u16, tag: u16) -> bool
-    requires { (table.now ≡ rows) × (i < row_count) }
-    ensures { result ≡ serves parent state tag (get_or rows i []) }
-{
-    if !row_belongs(table, i, parent) {
-        return false;
+    // The parent with this tag.
+    #[tactic(auto, using(crate::proofs::Serving::first_or_past))]
+    pub fn parent(&self, tag: u16) -> Parent
+        ensures { result.tag ≡ tag }
+    {
+        let first = self.first_row(tag).unwrap_or(ROW_COUNT);
+        Parent { tag, first }
     }
-    if cell(table, i, TAG) != tag {
-        return false;
-    }
-    if state < cell(table, i, FIRST) {
-        return false;
-    }
-    state <= cell(table, i, LAST)
-}
 
-fn row_belongs(table: &Table, i: usize, parent: u16) -> bool
-    requires { (table.now ≡ rows) × (i < row_count) }
-    ensures { result ≡ belongs parent (get_or rows i []) }
-{
-    cell(table, i, PARENT) == parent
-}
+    // The first row of the parent.
+    pub fn first_row(&self, parent: u16) -> Option<usize>
+        ensures { result ≡ in_table (first_row parent) }
+    {
+        (0..ROW_COUNT).find(|i| self.belongs(*i, parent))
+    }
 
-// The table is asked here and nowhere else.
-pub fn cell(table: &Table, i: usize, j: usize) -> u16
-    requires { (table.now ≡ rows) × (i < row_count) × (j < column_count) }
-    ensures { result ≡ cell_at i j }
-{
-    table[i][j]
+    // The first row for the tag in this state of its parent.
+    pub fn row_of(&self, parent: Parent, state: u16, tag: u16) -> Option<usize>
+        ensures { result ≡ in_table (row_of parent.tag state tag) }
+    {
+        (parent.first..ROW_COUNT).find(|i| self.serves(*i, parent.tag, state, tag))
+    }
+
+    // Is the row for this parent and tag, and the state within its bounds?
+    #[tactic(auto, unfolding(crate::specs::MirrorTable::serves, crate::specs::MirrorTable::cell_at))]
+    fn serves(&self, i: usize, parent: u16, state: u16, tag: u16) -> bool
+        requires { i < row_count }
+        ensures { result ≡ serves parent state tag (get_or rows i []) }
+    {
+        self.belongs(i, parent)
+            && self.cell(i, TAG) == tag
+            && self.cell(i, FIRST) <= state
+            && state <= self.cell(i, LAST)
+    }
+
+    #[tactic(auto, unfolding(crate::specs::MirrorTable::belongs, crate::specs::MirrorTable::cell_at))]
+    fn belongs(&self, i: usize, parent: u16) -> bool
+        requires { i < row_count }
+        ensures { result ≡ belongs parent (get_or rows i []) }
+    {
+        self.cell(i, PARENT) == parent
+    }
+
+    // The table is asked here and nowhere else.
+    #[tactic(auto, unfolding(crate::specs::MirrorTable::cell_at))]
+    pub fn cell(&self, i: usize, j: usize) -> u16
+        requires { (i < row_count) × (j < column_count) }
+        ensures { result ≡ cell_at i j }
+    {
+        self.cells[i][j]
+    }
 }

@@ -1,9 +1,7 @@
 -- A place among indices as the code gives it.
-use Rattle.std.specs.Prelude.{ℕ}
-use Rattle.std.proofs.Math.Option.{Option, none, some}
-use Rattle.indices.specs.declared.Spotted.{Spotted}
-use Rattle.indices.specs.declared.Spotted.TheVariants.{At, Nowhere}
+use Rattle.std.specs.Prelude.{ℕ, Option, Some, None}
+use Rattle.std.proofs.Math.Option.{none, some, Option as Maybe}
 
-abbrev pub spotted_of : Option ℕ → Spotted
-spotted_of none = Nowhere
-spotted_of (some i) = At i
+abbrev pub spotted_of : Maybe ℕ → Option ℕ
+spotted_of none = None
+spotted_of (some i) = Some i

@@ -5,73 +5,53 @@
 
 ghost use Rattle.std.specs.Prelude.{◌≡◌};
 ghost use Rattle.complex_entity.specs.MeaningParts.{dedup, bad_after, new_of};
-ghost use Rattle.complex_entity.specs.MirrorParts.{narrow_of, made_of};
+ghost use Rattle.complex_entity.specs.MirrorParts.{narrowed, Makes};
 ghost use Rattle.indices.specs.MirrorIndices.{spotted_of};
 
-use complex_entity::{Made, PartialComplexEntity};
-use refusal::Refusal;
-
-// The first index that `new` does not take.
-#[derive(Clone, Copy)]
-enum Spotted {
-    At(usize),
-    Nowhere,
-}
+use complex_entity::PartialComplexEntity;
+use refusal::{Reason, Refusal};
 
 // The part of some indices: repeats beside each other are dropped.
-pub fn new(indices: &[u16]) -> Made
-    ensures { result ≡ made_of (new_of indices.now) }
+pub fn new(indices: &[u16]) -> Result<PartialComplexEntity, Refusal>
+    ensures { Makes (new_of indices.now) result }
 {
-    if let Spotted::At(i) = first_bad(indices) {
-        return PartialComplexEntity::refused(Refusal::at(15, i));
+    match first_bad(indices) {
+        Some(place) => Err(Refusal::at(Reason::Malformed, place)),
+        None => distinct(indices),
     }
-    distinct(indices)
 }
 
 // The place of the first index that falls or is over the last one.
-fn first_bad(indices: &[u16]) -> Spotted
+fn first_bad(indices: &[u16]) -> Option<usize>
     ensures { result ≡ spotted_of (bad_after 0 indices.now) }
 {
     let mut before = 0;
-    let mut i = 0;
-    while i < indices.len() {
-        let x = indices[i];
-        if x < before {
-            return Spotted::At(i);
+    for (i, index) in indices.iter().enumerate() {
+        if *index < before || PartialComplexEntity::LAST < *index {
+            return Some(i);
         }
-        if PartialComplexEntity::LAST < x {
-            return Spotted::At(i);
-        }
-        before = x;
-        i += 1;
+        before = *index;
     }
-    Spotted::Nowhere
+    None
 }
 
 // The indices without repeats beside each other.
-fn distinct(indices: &[u16]) -> Made
-    ensures { result ≡ narrow_of (dedup indices.now) }
+fn distinct(indices: &[u16]) -> Result<PartialComplexEntity, Refusal>
+    ensures { Makes (narrowed (dedup indices.now)) result }
 {
     let mut names = [0u16; PartialComplexEntity::LIMIT];
-    if indices.len() == 0 {
-        return PartialComplexEntity::made(0, names);
-    }
-    let mut last = indices[0];
-    names[0] = last;
-    let mut n = 1;
-    let mut i = 1;
-    while i < indices.len() {
-        let x = indices[i];
-        if x == last {
-            i += 1;
-        } else if n >= PartialComplexEntity::LIMIT {
-            return PartialComplexEntity::over();
-        } else {
-            names[n] = x;
-            last = x;
-            n += 1;
-            i += 1;
+    let mut n = 0;
+    let mut last = None;
+    for index in indices {
+        if last == Some(*index) {
+            continue;
         }
+        if n >= PartialComplexEntity::LIMIT {
+            return Err(Reason::TooManySets.into());
+        }
+        names[n] = *index;
+        n += 1;
+        last = Some(*index);
     }
-    PartialComplexEntity::made(n, names)
+    Ok(PartialComplexEntity { n, names })
 }

@@ -5,7 +5,9 @@ use mathlib.Core.Logic.{inl, inr}
 use mathlib.Core.List.{List, ◌++◌}
 use native.Mathlib.Omega.{arith}
 use lib.ListN.{length, take, drop, length-append}
+use Rattle.std.specs.Prelude.{Result, Ok, Err}
 use Rattle.refusal.specs.MeaningAnswer.{Answer, refused}
+use Rattle.refusal.specs.Told.{number_of}
 use Rattle.refusal.specs.declared.Refusal.{Refusal}
 use Rattle.complex_entity.specs.MeaningRising.{◌∈◌}
 use Rattle.complex_entity.specs.MeaningParts.{Part}
@@ -17,8 +19,6 @@ use Rattle.complex_entity.proofs.Orders.{part_order}
 use Rattle.complex_entity.proofs.Members.{∈_append_left, ∈_append_right, ∈_append_cases, add_old, add_left, add_right, add_rising}
 use Rattle.complex_entity.proofs.Limits.{held_less}
 use Rattle.instantiables.specs.declared.Instantiables.{Instantiables}
-use Rattle.instantiables.specs.declared.Listed.{Listed}
-use Rattle.instantiables.specs.declared.Listed.TheVariants.{Rows, Refused}
 use Rattle.rows.specs.MirrorRows.{parts_at, Stands}
 use Rattle.instantiables.specs.MirrorRows.{Sets, Listing}
 use Rattle.instantiables.specs.Told.{told_listed}
@@ -58,23 +58,23 @@ module _ (rows scratch z : List ℕ) (count : ℕ) (h : Stands rows count) (e : 
   copied_sets s = rw copied s
 
 -- what was added stands
-pub added_stands : (L K : List Part) (rows rows' : List ℕ) (r : Listed) → Listing (held (add L K)) rows rows' (told_listed r) → 1664 ≤ length rows
-    → (l : Instantiables) → r ≡ Rows l → Stands rows' l.count
+pub added_stands : (L K : List Part) (rows rows' : List ℕ) (r : Result Instantiables Refusal) → Listing (held (add L K)) rows rows' (told_listed r) → 1664 ≤ length rows
+    → (l : Instantiables) → r ≡ Ok l → Stands rows' l.count
 added_stands L K rows rows' r g h l u =
     let x = listing_got (add L K) rows rows' (told_listed r) g l.count (ap told_listed u) in
     rw (← x.count) (put_stands (add L K) rows rows' x.slim x.put x.small h (add_rising L K))
 
 -- ---- from the empty list, T is added and then J
-module _ (T J : List Part) (rows : List ℕ) (l : Instantiables) (e : l ≡ record { count = 0 }) (h : 1664 ≤ length rows) (rows₁ : List ℕ) (r : Listed)
+module _ (T J : List Part) (rows : List ℕ) (l : Instantiables) (e : l ≡ record { count = 0 }) (h : 1664 ≤ length rows) (rows₁ : List ℕ) (r : Result Instantiables Refusal)
     (g : Listing (held (add (parts_at l.count rows) T)) rows rows₁ (told_listed r)) where
   base : Growing rows rows l.count (T ++ J) (held (add T J))
   unfolding parts_at
   base = rw e (grow_start rows 0 (T ++ J) (held (add T J)) (stands_empty rows h) refl)
 
-  pub two_over : (why : Refusal) → r ≡ Refused why → Listing (held (add T J)) rows rows₁ (told_listed r)
-  two_over why u = grow_over rows rows l.count (T ++ J) _ base rows₁ T (told_listed r) g J refl why.number why.place (ap told_listed u)
+  pub two_over : (why : Refusal) → r ≡ Err why → Listing (held (add T J)) rows rows₁ (told_listed r)
+  two_over why u = grow_over rows rows l.count (T ++ J) _ base rows₁ T (told_listed r) g J refl (number_of why.reason) why.place (ap told_listed u)
 
-  module _ (own : Instantiables) (u : r ≡ Rows own) where
+  module _ (own : Instantiables) (u : r ≡ Ok own) where
     more : Growing rows rows₁ own.count J (held (add T J))
     more = grow_next rows rows l.count (T ++ J) _ base rows₁ T (told_listed r) g J refl own.count (ap told_listed u)
 
@@ -103,18 +103,18 @@ grown_is L T = tidy_same part_order (L ++ add T J) (L ++ (J ++ T)) to fro
       | inr n ↦ ∈_append_right L (add T J) (elim (∈_append_cases J T n) [ inl j ↦ add_right T J j | inr k ↦ add_left T J k ])
     ]
 
-module _ (L T : List Part) (scratch scratch₁ : List ℕ) (r : Listed) (g : Listing (held (add T (joins L T))) scratch scratch₁ (told_listed r)) where
+module _ (L T : List Part) (scratch scratch₁ : List ℕ) (r : Result Instantiables Refusal) (g : Listing (held (add T (joins L T))) scratch scratch₁ (told_listed r)) where
   K : List Part
   K = add T (joins L T)
 
-  pub step_over : (rows : List ℕ) (why : Refusal) → r ≡ Refused why → Listing (held (grown L T)) rows rows (told_listed r)
+  pub step_over : (rows : List ℕ) (why : Refusal) → r ≡ Err why → Listing (held (grown L T)) rows rows (told_listed r)
   unfolding K
   step_over rows why u =
-      let x = listing_over K scratch scratch₁ (told_listed r) g why.number why.place (ap told_listed u) in
+      let x = listing_over K scratch scratch₁ (told_listed r) g (number_of why.reason) why.place (ap told_listed u) in
       let z : held (add L K) ≡ refused 11 0 = held_less K (add L K) (add_rising T (joins L T)) (add_rising L K) (λ q m. add_right L K m) x.0 in
       rw x.1 (listing_refused (held (grown L T)) rows rows 11 0 (ap held (sym (grown_is L T)) ∙ z))
 
-  module _ (more : Instantiables) (u : r ≡ Rows more) where
+  module _ (more : Instantiables) (u : r ≡ Ok more) where
     pub step_done : (rows rows' : List ℕ) (t : Answer ℕ) → Listing (held (add L (parts_at more.count scratch₁))) rows rows' t → Listing (held (grown L T)) rows rows' t
     unfolding K
     step_done rows rows' t x =

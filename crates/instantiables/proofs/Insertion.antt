@@ -9,7 +9,11 @@ use lib.Seq.{paste, take-add, drop_at, take_all, take-take, take-append-le, leng
 use mir.Syntax.{w64}
 use mir.Val.{Fits}
 use borrow.Author.Rules.{Fits-under}
+use Rattle.std.specs.Prelude.{Result, Ok, Err}
 use Rattle.refusal.specs.MeaningAnswer.{done}
+use Rattle.refusal.specs.declared.Reason.TheVariants.{TooManySets}
+use Rattle.refusal.specs.declared.Refusal.{Refusal}
+use Rattle.refusal.specs.Told.{told_refusal}
 use Rattle.complex_entity.specs.MeaningSets.{sort_in, put}
 use Rattle.complex_entity.specs.MeaningRising.{here, there}
 use Rattle.complex_entity.specs.MeaningParts.{Part, order}
@@ -22,28 +26,23 @@ use Rattle.complex_entity.proofs.Sets.{not_in_nil}
 use Rattle.complex_entity.proofs.Limits.{Narrow, held_done, held_many}
 use Rattle.complex_entity.proofs.Names.{names_few}
 use Rattle.complex_entity.proofs.Rows.{row_long}
-use Rattle.rows.specs.declared.Spot.{Spot}
-use Rattle.rows.specs.declared.Spot.TheVariants.{Found, Gap}
-use Rattle.instantiables.specs.declared.Listed.{Listed}
-use Rattle.instantiables.specs.declared.Listed.TheVariants.{Refused}
 use Rattle.rows.specs.MirrorRows.{parts_at, Stands, Put}
 use Rattle.instantiables.specs.MirrorRows.{Listing}
 use Rattle.rows.specs.MirrorLists.{further, place_of}
-use Rattle.instantiables.specs.Told.{told_listed}
 use Rattle.rows.proofs.Flats.{parts_length, parts_narrow, flat_cons, flat_append, flat_take, flat_drop}
 use Rattle.instantiables.proofs.Listings.{listing_same, listing_refused, listing_done}
 
 -- R is the list L with p in it
-data Seen (L : List Part) (p : Part) (R : List Part) : Spot → Type 0 where
-  found : (i : ℕ) → R ≡ L → Seen L p R (Found i)
-  before : (i : ℕ) → i ≤ length L → R ≡ take i L ++ p ∷ drop i L → Seen L p R (Gap i)
+data Seen (L : List Part) (p : Part) (R : List Part) : Result ℕ ℕ → Type 0 where
+  found : (i : ℕ) → R ≡ L → Seen L p R (Ok i)
+  before : (i : ℕ) → i ≤ length L → R ≡ take i L ++ p ∷ drop i L → Seen L p R (Err i)
 
 seen : (L : List Part) (p : Part) → Seen L p (sort_in order p L) (place_of L p)
 unfolding place_of
 seen [] p = before 0 (omega arith) refl
 seen (q ∷ L) p = go (order p q) (seen L p)
   where
-    go : (o : Ordering) {R : List Part} {s : Spot} → Seen L p R s → Seen (q ∷ L) p (put order o p q L R) (by o (Gap 0) (Found 0) (further 1 s))
+    go : (o : Ordering) {R : List Part} {s : Result ℕ ℕ} → Seen L p R s → Seen (q ∷ L) p (put order o p q L R) (by o (Err 0) (Ok 0) (further 1 s))
     go Ordering.lt v = before 0 (omega arith) refl
     go Ordering.eq v = found 0 refl
     go Ordering.gt (found i e) = found (1 + i) (ap (λ (t : List Part). q ∷ t) e)
@@ -51,18 +50,18 @@ seen (q ∷ L) p = go (order p q) (seen L p)
         let n : 1 + i ≡ suc i = omega arith in
         rw n (before (suc i) (omega arith) (ap (λ (t : List Part). q ∷ t) e))
 
-module _ (L : List Part) (p : Part) (s : Spot) (i : ℕ) (e : s ≡ place_of L p) where
-  found_is : s ≡ Found i → sort_in order p L ≡ L
+module _ (L : List Part) (p : Part) (s : Result ℕ ℕ) (i : ℕ) (e : s ≡ place_of L p) where
+  found_is : s ≡ Ok i → sort_in order p L ≡ L
   found_is g = go (seen L p) (sym e ∙ g)
     where
-      go : {t : Spot} → Seen L p (sort_in order p L) t → t ≡ Found i → sort_in order p L ≡ L
+      go : {t : Result ℕ ℕ} → Seen L p (sort_in order p L) t → t ≡ Ok i → sort_in order p L ≡ L
       go (found j w) x = w
       go (before j h w) x = let z : ◌≡◌ {A = ℕ} 0 1 = cc in absurd (omega arith)
 
-  gap_is : s ≡ Gap i → (i ≤ length L) × (sort_in order p L ≡ take i L ++ p ∷ drop i L)
+  gap_is : s ≡ Err i → (i ≤ length L) × (sort_in order p L ≡ take i L ++ p ∷ drop i L)
   gap_is g = go (seen L p) (sym e ∙ g)
     where
-      go : {t : Spot} → Seen L p (sort_in order p L) t → t ≡ Gap i → (i ≤ length L) × (sort_in order p L ≡ take i L ++ p ∷ drop i L)
+      go : {t : Result ℕ ℕ} → Seen L p (sort_in order p L) t → t ≡ Err i → (i ≤ length L) × (sort_in order p L ≡ take i L ++ p ∷ drop i L)
       go (found j w) x = let z : ◌≡◌ {A = ℕ} 0 1 = cc in absurd (omega arith)
       go (before j h w) x =
           let y : j ≡ i = cc in
@@ -117,7 +116,10 @@ module _ (rows : List ℕ) (count i : ℕ) (p : Part) (h : Stands rows count) (h
       (sym (append_assoc (flat (take i L)) (row_of p ++ flat (drop i L)) z ∙ ap (λ (t : List ℕ). flat (take i L) ++ t) (append_assoc (row_of p) (flat (drop i L)) z)))
 
 -- ---- the ways through `add_part`
-module _ (rows : List ℕ) (count : ℕ) (x : PartialComplexEntity) (s : Spot) (i : ℕ) (h : Stands rows count) (e : s ≡ place_of (parts_at count rows) (names_of x)) where
+module _ (rows : List ℕ) (count : ℕ) (x : PartialComplexEntity) (p : List ℕ) (d : p ≡ names_of x) (s : Result ℕ ℕ) (i : ℕ) (h : Stands rows count) (e' : s ≡ place_of (parts_at count rows) p) where
+  e : s ≡ place_of (parts_at count rows) (names_of x)
+  e = e' ∙ ap (place_of (parts_at count rows)) d
+
   more : List Part
   more = add (parts_at count rows) (names_of x ∷ [])
 
@@ -125,11 +127,11 @@ module _ (rows : List ℕ) (count : ℕ) (x : PartialComplexEntity) (s : Spot) (
   unfolding more
   is_sorted_in = add_one_part (names_of x) h.ordered
 
-  pub insert_found : s ≡ Found i → Listing (held (add (parts_at count rows) (names_of x ∷ []))) rows rows (done count)
+  pub insert_found : s ≡ Ok i → Listing (held (add (parts_at count rows) (names_of x ∷ []))) rows rows (done count)
   unfolding more
   insert_found g = listing_same _ rows rows count (ap held (is_sorted_in ∙ found_is (parts_at count rows) (names_of x) s i e g)) h refl
 
-  module _ (g : s ≡ Gap i) where
+  module _ (g : s ≡ Err i) where
     inside : i ≤ count
     inside = rw (parts_length count rows) at (gap_is (parts_at count rows) (names_of x) s i e g).0
 
@@ -147,10 +149,10 @@ module _ (rows : List ℕ) (count : ℕ) (x : PartialComplexEntity) (s : Spot) (
     pub insert_mul : Fits w64 (13 * i)
     insert_mul = Fits-under w64 (13 * i) 2000 (omega (arith, inside, h.small)) tt
 
-    pub insert_full : 128 ≤ count → (r : Listed) → r ≡ Refused (record { number = 11; place = 0 })
-        → Listing (held (add (parts_at count rows) (names_of x ∷ []))) rows rows (told_listed r)
+    pub insert_full : 128 ≤ count → (w : Refusal) → w ≡ record { reason = TooManySets; place = 0 }
+        → Listing (held (add (parts_at count rows) (names_of x ∷ []))) rows rows (told_refusal w)
     unfolding more
-    insert_full k r u = rw u (listing_refused _ rows rows 11 0 (held_many more (omega (arith, longer))))
+    insert_full k w u = rw u (listing_refused _ rows rows 11 0 (held_many more (omega (arith, longer))))
 
     module _ (k : count < 128) where
       pub insert_at : 13 * i ≤ 13 * count

@@ -1,2 +1,2 @@
-pub mod Seeking
 pub mod Keeping
+pub mod Seeking

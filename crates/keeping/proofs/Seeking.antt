@@ -1,47 +1,45 @@
--- A walk over rows that asks whether one of them meets a test: the loops of `has` and `some_in`.
-use Prim.Native.Nat.{ℕ, ◌+◌, ◌-◌, ◌*◌, ◌≤◌, ◌<◌}
-use mathlib.Core.Path.{◌≡◌, refl, sym, ap, ◌∙◌}
+-- A question that is asked of each row, by its number.
+use Prim.Native.Nat.{ℕ, zero, suc, ◌+◌, ◌*◌}
+use mathlib.Core.Path.{◌≡◌, refl, ap, ◌∙◌}
 use mathlib.Core.List.{List}
 use mathlib.Core.Bool.{Bool, true, false, ◌||◌}
 use native.Mathlib.Omega.{arith}
-use lib.ListN.{length, drop}
+use lib.ListN.{drop}
+use lib.Seq.{drop-drop}
+use lib.Dec.{eqb, T}
+use Rattle.std.specs.List.{list_any, range_with_len}
+use Rattle.std.specs.Cmp.Lexicographic.{pointwise}
+use Rattle.std.proofs.lemmas.Slice.Eq.{slice_eq-Decides}
+use Rattle.std.proofs.lemmas.Bool.{false≢true}
+use Rattle.std.proofs.lemmas.Bool.Decides.{Decides-eqb}
+use Rattle.std.specs.Bool.{Decides}
+use Rattle.complex_entity.proofs.Keeping.{equal_in, equal_out}
 use Rattle.complex_entity.specs.MeaningParts.{Part, contains}
-use Rattle.complex_entity.specs.MeaningLists.{any}
+use Rattle.complex_entity.specs.MeaningLists.{any, equal}
 use Rattle.complex_entity.specs.MirrorParts.{names_of, part_of, part_at}
 use Rattle.complex_entity.specs.declared.PartialComplexEntity.{PartialComplexEntity}
 use Rattle.rows.specs.MirrorRows.{parts_at}
-use Rattle.rows.proofs.Flats.{names_of_law, ahead, none_left}
+use Rattle.rows.proofs.Flats.{names_of_law}
 
--- ---- the tests, as the code makes them
-pub contains_read : (p q : Part) (x : PartialComplexEntity) (b v : Bool) → x ≡ part_of q → b ≡ contains p (names_of x) → b ≡ v → contains p q ≡ v
-contains_read p q x b v e h g = ap (contains p) (sym (names_of_law q x e)) ∙ sym h ∙ g
+pub seek_rows : (f : Part → Bool) (l : List ℕ) (a n : ℕ) → list_any (λ i. f (part_at (drop (13 * i) l))) (range_with_len a n) ≡ any f (parts_at n (drop (13 * a) l))
+unfolding parts_at
+seek_rows f l a zero = refl
+seek_rows f l a (suc n) =
+    let e : 13 * (a + 1) ≡ 13 * a + 13 = omega arith in
+    ap (λ (b : Bool). f (part_at (drop (13 * a) l)) || b) (seek_rows f l (a + 1) n ∙ rw (e, ← drop-drop 13 (13 * a) l) refl)
 
-pub told_test : (b t v : Bool) → b ≡ t → b ≡ v → t ≡ v
-told_test b t v h g = sym h ∙ g
+-- ---- the two questions, as the code asks them
+pub contained : (p q : Part) (x : PartialComplexEntity) (b : Bool) → x ≡ part_of q → b ≡ contains p (names_of x) → b ≡ contains p q
+contained p q x b e h = h ∙ ap (contains p) (names_of_law q x e)
 
--- ---- the loop: what is left decides
-pub record Seeking (f : Part → Bool) (rows : List ℕ) (at left : ℕ) (r : Bool) : Type 0 where
-  pub inside : at + 13 * left ≤ length rows
-  pub rest : any f (parts_at left (drop at rows)) ≡ r
-
-pub seek_start : (f : Part → Bool) (rows : List ℕ) (m : ℕ) → 13 * m ≤ length rows → Seeking f rows 0 m (any f (parts_at m rows))
-seek_start f rows m h = record { inside = omega arith; rest = refl }
-
-module _ (f : Part → Bool) (rows : List ℕ) (at left : ℕ) (r : Bool) (s : Seeking f rows at left r) where
-  pub seek_done : left ≤ 0 → false ≡ r
-  seek_done h = sym (ap (any f) (none_left (drop at rows) left h)) ∙ s.rest
-
-  module _ (h : 0 < left) where
-    pub seek_inside : at + 13 ≤ length rows
-    seek_inside = omega (arith, s.inside)
-
-    turn : f (part_at (drop at rows)) || any f (parts_at (left - 1) (drop (at + 13) rows)) ≡ r
-    turn = sym (ap (any f) (ahead rows at left h)) ∙ s.rest
-
-    pub seek_found : f (part_at (drop at rows)) ≡ true → true ≡ r
-    seek_found e = rw e at turn
-
-    pub seek_next : f (part_at (drop at rows)) ≡ false → Seeking f rows (at + 13) (left - 1) r
-    seek_next e = record { inside = omega (arith, s.inside); rest = rw e at turn }
-
-pub ruleset seeking = (contains_read, told_test, seek_start, seek_done, seek_inside, seek_found, seek_next)
+-- the names are the same where their lists are
+pub same : (p q a d : Part) (b : Bool) → a ≡ p → d ≡ q → b ≡ pointwise eqb a d → b ≡ equal p q
+same p q a d b u v e =
+    let s : Decides b (p ≡ q) = slice_eq-Decides Decides-eqb p q b (e ∙ rw (u, v) refl) in
+    go b (equal p q) (λ t. equal_in p q (s.0 t)) (λ t. s.1 (equal_out p q t))
+  where
+    go : (b x : Bool) → (b ≡ true → T x) → (T x → b ≡ true) → b ≡ x
+    go true true f g = refl
+    go true false f g = absurd (f refl)
+    go false true f g = absurd (false≢true (g tt))
+    go false false f g = refl

@@ -16,7 +16,7 @@ pub record Written (at end : ℕ) (before after : List ℕ) : Type 0 where
   pub past : drop end after ≡ drop end before
 
 -- so many values are put, and past them is what was there
-pub record Filled (count : ℕ) (before after : List ℕ) : Type 0 where
+pub record Filled {A : Type 0} (count : ℕ) (before after : List A) : Type 0 where
   pub size : length after ≡ length before
   pub inside : count ≤ length after
   pub past : drop count after ≡ drop count before

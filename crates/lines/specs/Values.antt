@@ -1,14 +1,11 @@
 -- What words say.
-use Rattle.std.specs.Prelude.{◌≡◌, List, ℕ, ◌≤◌, length}
+use Rattle.std.specs.Prelude.{◌≡◌, List, ℕ, ◌≤◌, length, Option, Some, None, IfSome}
 use Rattle.lines.specs.Places.{Filled}
-use Rattle.lines.specs.declared.values.Number.{Number}
-use Rattle.lines.specs.declared.values.Number.TheVariants.{Is, Missing}
 
 -- so many values stand at the front, and past them is what was there
-abbrev pub Decoded : Number → List ℕ → List ℕ → Type 0
-Decoded (Is n) before after = Filled n before after
-Decoded Missing before after = length after ≡ length before
+abbrev pub Decoded : {A : Type 0} → Option ℕ → List A → List A → Type 0
+Decoded (Some n) before after = Filled n before after
+Decoded None before after = length after ≡ length before
 
-abbrev pub AtMost : ℕ → Number → Type 0
-AtMost most (Is n) = n ≤ most
-AtMost most Missing = Unit {0}
+abbrev pub AtMost : ℕ → Option ℕ → Type 0
+AtMost most r = IfSome r (λ n. n ≤ most)

@@ -6,27 +6,23 @@ use Prim.Native.Nat.{ℕ, ◌≤◌, ◌<◌}
 use native.Mathlib.Omega.{arith}
 use lib.ListN.{length, take, drop, length-take}
 use Rattle.refusal.specs.MeaningAnswer.{Answer, done, mapped}
-use Rattle.refusal.specs.Told.{told_refusal}
+use Rattle.refusal.specs.Told.{told, told_refusal}
 use Rattle.refusal.specs.declared.Refusal.{Refusal}
+use Rattle.std.specs.Prelude.{Option, Some, None, Result, Ok, Err}
+use Rattle.instantiables.specs.declared.Instantiables.{Instantiables}
 use Rattle.complex_entity.specs.MeaningParts.{Part}
 use Rattle.rows.specs.MirrorRows.{parts_at, Stands}
 use Rattle.rows.proofs.Flats.{parts_length}
 use Rattle.grammar.specs.MeaningReading.{Reading}
 use Rattle.scope.specs.MeaningScope.{Path}
 use Rattle.declarations.specs.MeaningNamespace.{schemas_in}
-use Rattle.expression.specs.declared.Value.{Value}
-use Rattle.expression.specs.declared.Valued.{Valued}
-use Rattle.expression.specs.declared.Valued.TheVariants as valued
 use Rattle.merging.specs.MeaningMerging.{Combined}
 use Rattle.merging.specs.MirrorStream.{stream_of, RecordsFrom, owners_from, EntryAt, EntryIs}
 use Rattle.merging.specs.declared.Entry.{Entry}
-use Rattle.merging.specs.declared.Entry.TheVariants as entry
 use Rattle.supertypes.specs.MirrorStanding.{Both, Standing, Stood, list_by, list_at, StandsIf, ListedAs}
 use Rattle.supertypes.proofs.Standing.{standing_all}
 use Rattle.text.specs.MeaningText.{supertype_line}
 use Rattle.text.specs.MirrorText.{Puts}
-use Rattle.text.specs.Told.{told_count}
-use Rattle.text.specs.declared.Count.TheVariants as count
 use Rattle.noting.specs.MirrorNoted.{Noted}
 use Rattle.listing.specs.MeaningLines.{parts_of}
 use Rattle.listing.specs.MirrorLines.{Short, line_of_supertype}
@@ -71,8 +67,7 @@ module _ (rd : Reading) (s names work : List ℕ) (x : Records) (A : AtCursor rd
       record { passed = f.passed; coming = f.coming; is = standing_all f.stands ∙ ap stream_of f.all; place = f.there }
 
   -- a list that is valued has at most 128 parts
-  pub pass_small : (o : ℕ) (v : Valued) (work' : List ℕ) → ((b : Both) → Standing b x.streams work → ListedAs (list_by o b) v work') → (l : Value) → v ≡ valued.Is l → l.count ≤ 65535
-  unfolding StandsIf
+  pub pass_small : (o : ℕ) (v : Result Instantiables Refusal) (work' : List ℕ) → ((b : Both) → Standing b x.streams work → ListedAs (list_by o b) v work') → (l : Instantiables) → v ≡ Ok l → l.count ≤ 65535
   pass_small o v work' L l j =
       let q = supertypes_left in
       let h : Stands (drop 2048 work') l.count = rw j at (L q.both q.from.stands).stands in
@@ -80,13 +75,13 @@ module _ (rd : Reading) (s names work : List ℕ) (x : Records) (A : AtCursor rd
 
 -- ---- what comes next among the records
 
-module _ (work : List ℕ) (x : Records) (e : Entry) (E : (cs ds : List (Combined ℕ)) → take x.streams.used work ≡ stream_of (cs ++ ds) → x.at ≡ length (stream_of cs) → EntryIs cs ds e) where
+module _ (work : List ℕ) (x : Records) (e : Option Entry) (E : (cs ds : List (Combined ℕ)) → take x.streams.used work ≡ stream_of (cs ++ ds) → x.at ≡ length (stream_of cs) → EntryIs cs ds e) where
   entered : {b : Both} (f : From b x work) → EntryIs f.passed f.coming e
   entered f = E f.passed f.coming (standing_all f.stands ∙ ap stream_of f.all) f.there
 
   module _ (rd : Reading) (s names : List ℕ) where
     -- ---- no owner comes
-    pub pass_none : e ≡ entry.Past → (before after : List ℕ) (r : Line) → ((work : List ℕ) → GivesFirst rd s names work (on.Types 0) work before after r) → GivesFirst rd s names work (on.Supertypes x) work before after r
+    pub pass_none : e ≡ None → (before after : List ℕ) (r : Option Line) → ((work : List ℕ) → GivesFirst rd s names work (on.Types 0) work before after r) → GivesFirst rd s names work (on.Supertypes x) work before after r
     unfolding Rest EntryIs supertypes_from owner_lines
     pass_none i before after r f =
         record {
@@ -96,7 +91,7 @@ module _ (work : List ℕ) (x : Records) (e : Entry) (E : (cs ds : List (Combine
         }
 
     -- ---- an owner comes, and its list is valued
-    module _ (o n : ℕ) (i : e ≡ entry.At o n) where
+    module _ (o n : ℕ) (i : e ≡ Some (record { owner = o; next = n })) where
       coming : {b : Both} (f : From b x work) → EntryAt f.passed f.coming o n
       unfolding EntryIs
       coming f = rw i at (entered f)
@@ -108,14 +103,14 @@ module _ (work : List ℕ) (x : Records) (e : Entry) (E : (cs ds : List (Combine
           let m : length (take x.streams.used work) ≤ x.streams.used = simp length-take (omega arith) in
           (omega (arith, f.there, c.further), omega (arith, c.within))
 
-      module _ (v : Valued) (work' : List ℕ) (L : (b : Both) → Standing b x.streams work → ListedAs (list_by o b) v work') where
+      module _ (v : Result Instantiables Refusal) (work' : List ℕ) (L : (b : Both) → Standing b x.streams work → ListedAs (list_by o b) v work') where
         module _ (K : (b : Both) → Standing b x.streams work → Standing b x.streams work') where
           on_from : {b : Both} (f : From b x work) → From b (record { streams = x.streams; at = n }) work'
           on_from {b} f = let c = coming f in record { stands = K b f.stands; passed = c.passed; coming = c.coming; all = f.all ∙ c.same; there = c.place }
 
-          pub pass_refused : (why : Refusal) → v ≡ valued.Refused why → (before after : List ℕ) (stop : ℕ) → Puts (line_of_supertype (schemas_in s) o (told_count (count.Refused why))) 0 stop before after
-              → GivesFirst rd s names work (on.Supertypes x) work' before after (record { stop = stop; next = on.Supertypes (record { streams = x.streams; at = n }) })
-          unfolding Rest Gives list_at parts_of on_from coming
+          pub pass_refused : (why : Refusal) → v ≡ Err why → (before after : List ℕ) (stop : ℕ) → Puts (line_of_supertype (schemas_in s) o (told {A = ℕ} (Err why))) 0 stop before after
+              → GivesFirst rd s names work (on.Supertypes x) work' before after (Some (record { stop = stop; next = on.Supertypes (record { streams = x.streams; at = n }) }))
+          unfolding Rest Gives parts_of on_from coming
           pass_refused why j before after stop P =
               record {
                 first = λ walked W ls q.
@@ -129,9 +124,9 @@ module _ (work : List ℕ) (x : Records) (e : Entry) (E : (cs ds : List (Combine
                     );
               }
 
-          pub pass_listed : (l : Value) → v ≡ valued.Is l → (before after : List ℕ) (stop : ℕ) → Puts (line_of_supertype (schemas_in s) o (told_count (count.Is l.count))) 0 stop before after
-              → GivesFirst rd s names work (on.Supertypes x) work' before after (record { stop = stop; next = on.Parts (record { number = 0; count = l.count; then = record { streams = x.streams; at = n } }) })
-          unfolding Rest Gives list_at StandsIf parts_of on_from coming
+          pub pass_listed : (l : Instantiables) → v ≡ Ok l → (before after : List ℕ) (stop : ℕ) → Puts (line_of_supertype (schemas_in s) o (told (Ok l.count))) 0 stop before after
+              → GivesFirst rd s names work (on.Supertypes x) work' before after (Some (record { stop = stop; next = on.Parts (record { number = 0; count = l.count; then = record { streams = x.streams; at = n } }) }))
+          unfolding Rest Gives parts_of on_from coming
           pass_listed l j before after stop P =
               record {
                 first = λ walked W ls q.
@@ -147,20 +142,21 @@ module _ (work : List ℕ) (x : Records) (e : Entry) (E : (cs ds : List (Combine
               }
 
   -- ---- what is left falls
-  module _ (rd : Reading) (s names : List ℕ) (A : AtCursor rd s names work (on.Supertypes x)) (o n : ℕ) (i : e ≡ entry.At o n) (stop : ℕ) where
-    beyond : (x.at < n) × (n ≤ x.streams.used)
-    beyond = next_there rd s names o n i (supertypes_left rd s names work x A).from
+  module _ (rd : Reading) (s names : List ℕ) (A : AtCursor rd s names work (on.Supertypes x)) (f : Entry) (i : e ≡ Some f) where
+    beyond : (x.at < f.next) × (f.next ≤ x.streams.used)
+    beyond = next_there rd s names f.owner f.next i (supertypes_left rd s names work x A).from
 
-    pub pass_on : Falls (on.Supertypes x) (record { stop = stop; next = on.Supertypes (record { streams = x.streams; at = n }) })
+    pub pass_on : left (on.Supertypes (record { streams = x.streams; at = f.next })) < left (on.Supertypes x)
     unfolding left
-    pass_on = let z = beyond in record { fewer = λ k. omega arith }
+    pass_on = let z = beyond in omega arith
 
-    pub pass_in : (count : ℕ) → count ≤ 65535 → Falls (on.Supertypes x) (record { stop = stop; next = on.Parts (record { number = 0; count = count; then = record { streams = x.streams; at = n } }) })
+    pub pass_in : (count : ℕ) → count ≤ 65535 → left (on.Parts (record { number = 0; count = count; then = record { streams = x.streams; at = f.next } })) < left (on.Supertypes x)
     unfolding left
-    pass_in count h = let z = beyond in record { fewer = λ k. omega arith }
+    pass_in count h = let z = beyond in omega arith
 
-pub pass_over : (x : Records) (r : Line) → Falls (on.Types 0) r → Falls (on.Supertypes x) r
+pub pass_over : (x : Records) (r : Option Line) → Falls (on.Types 0) r → Falls (on.Supertypes x) r
 unfolding left
-pass_over x r f = record { fewer = λ k. omega (arith, f.fewer k) }
+pass_over x None f = tt
+pass_over x (Some r) f = omega arith
 
 pub ruleset passing = (pass_stood, pass_ready, pass_short, pass_noted, pass_records, pass_none, pass_over, pass_refused, pass_listed, pass_small, pass_on, pass_in)

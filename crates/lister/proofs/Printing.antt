@@ -9,6 +9,7 @@ use lib.Seq.{drop-cons, drop-drop, drop-append-le, take_all}
 use mir.Syntax.{w64}
 use mir.Val.{Fits}
 use borrow.Author.Rules.{Fits-under}
+use Rattle.std.specs.Prelude.{Option, Some, None}
 use Rattle.complex_entity.specs.MeaningParts.{Part}
 use Rattle.complex_entity.specs.MeaningRows.{row_of, flat}
 use Rattle.complex_entity.specs.MirrorParts.{part_at}
@@ -109,14 +110,14 @@ unfolding line_of_part part_line
 line_some s i q r before after P = omega (arith, P.end, simp (length-append) at P.end)
 
 module _ (rd : Reading) (s names work : List ℕ) (p : Parts) where
-  pub part_none : p.count ≤ p.number → (work' before after : List ℕ) (r : Line) → GivesFirst rd s names work (on.Supertypes p.then) work' before after r → GivesFirst rd s names work (on.Parts p) work' before after r
+  pub part_none : p.count ≤ p.number → (work' before after : List ℕ) (r : Option Line) → GivesFirst rd s names work (on.Supertypes p.then) work' before after r → GivesFirst rd s names work (on.Parts p) work' before after r
   unfolding Rest part_lines
   part_none h work' before after r f =
       let z : drop p.number (parts_at p.count (drop 2048 work)) ≡ [] = drop_of_length-le (parts_at p.count (drop 2048 work)) {i = p.number} (omega (arith, parts_length p.count (drop 2048 work))) in
       record { first = λ walked W ls q. f.first walked W ls (record { ready = q.ready; both = q.both; from = q.from; lines = q.lines ∙ rw z refl }) }
 
   pub part_given : p.number < p.count → (before after : List ℕ) (stop : ℕ) → Puts (line_of_part (schemas_in s) p.number (part_at (row_from work p))) 0 stop before after
-      → GivesFirst rd s names work (on.Parts p) work before after (record { stop = stop; next = on.Parts (record { number = p.number + 1; count = p.count; then = p.then }) })
+      → GivesFirst rd s names work (on.Parts p) work before after (Some (record { stop = stop; next = on.Parts (record { number = p.number + 1; count = p.count; then = p.then }) }))
   unfolding Rest Gives part_lines
   part_given h before after stop P =
       record {
@@ -130,12 +131,13 @@ module _ (rd : Reading) (s names work : List ℕ) (p : Parts) where
       }
 
 module _ (p : Parts) where
-  pub part_falls : p.count ≤ p.number → (r : Line) → Falls (on.Supertypes p.then) r → Falls (on.Parts p) r
+  pub part_falls : p.count ≤ p.number → (r : Option Line) → Falls (on.Supertypes p.then) r → Falls (on.Parts p) r
   unfolding left
-  part_falls h r f = record { fewer = λ k. omega (arith, f.fewer k) }
+  part_falls h None f = tt
+  part_falls h (Some r) f = omega arith
 
-  pub part_less : p.number < p.count → (stop : ℕ) → Falls (on.Parts p) (record { stop = stop; next = on.Parts (record { number = p.number + 1; count = p.count; then = p.then }) })
+  pub part_less : p.number < p.count → left (on.Parts (record { number = p.number + 1; count = p.count; then = p.then })) < left (on.Parts p)
   unfolding left
-  part_less h stop = record { fewer = λ k. omega arith }
+  part_less h = omega arith
 
 pub ruleset printing = (part_on, part_short, part_noted, part_small, part_inside, part_fits, part_place, part_bytes, part_row, part_none, part_falls, part_given, part_less)

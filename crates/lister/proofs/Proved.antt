@@ -5,6 +5,7 @@ use mathlib.Core.Bool.{Bool, true}
 use Prim.Native.Nat.{ℕ}
 use native.Mathlib.Omega.{arith}
 use lib.ListN.{take}
+use Rattle.std.specs.Prelude.{Some, None}
 use Rattle.refusal.specs.MeaningAnswer.{Answer, done, mapped}
 use Rattle.grammar.specs.MeaningReading.{Reading}
 use Rattle.sheet.proofs.Proved.{some_verdict}
@@ -72,15 +73,15 @@ one_listing rd s ls ls' L M =
 module _ (rd : Reading) (s names : List ℕ) (walked : Path → Answer Bool) (W : AllWalked rd s walked) where
   made_left : (work : List ℕ) (c : Cursor) (ls ms : Lines) → Makes rd s names work c ls → Rest rd s walked names work c ms → ls ≡ ms
   unfolding Gives
-  made_left work c _ ms (over {work' = work'} {before = before} {after = after} {r = r} f e) q = none ms (f.first walked W ms q)
+  made_left work c _ ms (over {work' = work'} {before = before} {after = after} f) q = none ms (f.first walked W ms q)
     where
-      none : (ms : Lines) → Gives rd s walked names work' before after r ms → [] ≡ ms
+      none : (ms : Lines) → Gives rd s walked names work' before after None ms → [] ≡ ms
       none [] g = refl
-      none (m ∷ ms) g = absurd (omega (arith, e, g.0))
-  made_left work c _ ms (line {work' = work'} {before = before} {after = after} {r = r} {ls = ls} f h more) q = some ms (f.first walked W ms q) (λ k x. made_left work' r.next ls k more x)
+      none (m ∷ ms) g = absurd g
+  made_left work c _ ms (line {work' = work'} {before = before} {after = after} {r = r} {ls = ls} f more) q = some ms (f.first walked W ms q) (λ k x. made_left work' r.next ls k more x)
     where
-      some : (ms : Lines) → Gives rd s walked names work' before after r ms → ((k : Lines) → Rest rd s walked names work' r.next k → ls ≡ k) → take r.stop after ∷ ls ≡ ms
-      some [] g rest = absurd (omega (arith, h, g.0))
+      some : (ms : Lines) → Gives rd s walked names work' before after (Some r) ms → ((k : Lines) → Rest rd s walked names work' r.next k → ls ≡ k) → take r.stop after ∷ ls ≡ ms
+      some [] g rest = absurd g
       some (m ∷ ms) g rest = rw (puts_front m r.stop before after g.1, rest ms g.2) refl
 
 pub made_is_listed : MadeIsListed

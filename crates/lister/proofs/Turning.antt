@@ -5,7 +5,9 @@ use mathlib.Core.Bool.{Bool}
 use Prim.Native.Nat.{ℕ, ◌≤◌, ◌<◌}
 use native.Mathlib.Omega.{arith}
 use lib.ListN.{length}
+use Rattle.std.specs.Prelude.{Option, Some, None}
 use Rattle.refusal.specs.MeaningAnswer.{Answer}
+use Rattle.refusal.specs.Told.{number_of}
 use Rattle.refusal.specs.declared.Refusal.{Refusal}
 use Rattle.grammar.specs.MeaningReading.{Reading}
 use Rattle.scope.specs.MeaningScope.{Path}
@@ -34,33 +36,30 @@ module _ (rd : Reading) (s names work : List ℕ) (c : Cursor) where
   unfolding Rest
   at_types A n e = let B : AtCursor rd s names work (on.Types n) = rw e at A in B.rest.ready
 
-  pub same_given : (d : Cursor) → c ≡ d → (work' before after : List ℕ) (r : Line) → GivesFirst rd s names work d work' before after r → GivesFirst rd s names work c work' before after r
+  pub same_given : (d : Cursor) → c ≡ d → (work' before after : List ℕ) (r : Option Line) → GivesFirst rd s names work d work' before after r → GivesFirst rd s names work c work' before after r
   same_given d e work' before after r f = rw e f
 
-  pub types_given : (n : ℕ) → c ≡ on.Types n → (before after : List ℕ) (r : Line) → ((work : List ℕ) → GivesFirst rd s names work (on.Types n) work before after r) → GivesFirst rd s names work c work before after r
+  pub types_given : (n : ℕ) → c ≡ on.Types n → (before after : List ℕ) (r : Option Line) → ((work : List ℕ) → GivesFirst rd s names work (on.Types n) work before after r) → GivesFirst rd s names work c work before after r
   types_given n e before after r f = rw e (f work)
 
   -- ---- the refusal, and the end
-  pub refusal_given : (why : Refusal) → c ≡ on.Refusal why → (before after : List ℕ) (stop : ℕ) → Puts (refused_line why.number why.place) 0 stop before after → GivesFirst rd s names work c work before after (record { stop = stop; next = on.End })
+  pub refusal_given : (why : Refusal) → c ≡ on.Refusal why → (before after : List ℕ) (stop : ℕ) → Puts (refused_line (number_of why.reason) why.place) 0 stop before after → GivesFirst rd s names work c work before after (Some (record { stop = stop; next = on.End }))
   unfolding Rest Gives refused_line
-  refusal_given why e before after stop P = record { first = λ walked W ls q. let z : ls ≡ refused_line why.number why.place ∷ [] = rw e at q in rw z (omega (arith, P.end), P, refl) }
+  refusal_given why e before after stop P = record { first = λ walked W ls q. let z : ls ≡ refused_line (number_of why.reason) why.place ∷ [] = rw e at q in rw z (omega (arith, P.end), P, refl) }
 
-  pub end_given : c ≡ on.End → (l : List ℕ) → GivesFirst rd s names work c work l l (record { stop = 0; next = on.End })
+  pub end_given : c ≡ on.End → (l : List ℕ) → GivesFirst rd s names work c work l l None
   unfolding Rest Gives
-  end_given e l = record { first = λ walked W ls q. let z : ls ≡ [] = rw e at q in rw z (refl, refl, refl) }
+  end_given e l = record { first = λ walked W ls q. let z : ls ≡ [] = rw e at q in rw z refl }
 
 module _ (c : Cursor) where
-  pub same_falls : (d : Cursor) → c ≡ d → (r : Line) → Falls d r → Falls c r
+  pub same_falls : (d : Cursor) → c ≡ d → (r : Option Line) → Falls d r → Falls c r
   same_falls d e r f = rw e f
 
-  pub refusal_falls : (why : Refusal) → c ≡ on.Refusal why → (stop : ℕ) → Falls c (record { stop = stop; next = on.End })
+  pub refusal_falls : (why : Refusal) → c ≡ on.Refusal why → left on.End < left c
   unfolding left
-  refusal_falls why e stop = record { fewer = λ k. rw e (omega arith) }
+  refusal_falls why e = rw e (omega arith)
 
-  pub end_falls : Falls c (record { stop = 0; next = on.End })
-  end_falls = record { fewer = λ k. absurd (omega arith) }
-
-pub ruleset turning = (at_supertypes, at_parts, at_types, same_given, same_falls, types_given, refusal_given, refusal_falls, end_given, end_falls)
+pub ruleset turning = (at_supertypes, at_parts, at_types, same_given, same_falls, types_given, refusal_given, refusal_falls, end_given)
 
 -- ---- for callers: lines are left at the start, and after each line; a line is inside the lent bytes
 
@@ -73,21 +72,21 @@ module _ (rd : Reading) (s names work : List ℕ) (c : Cursor) where
       let z = f.all walked W in
       record { walked = walked; walks = W; lines = z.0; rest = z.2 }
 
-  module _ (A : AtCursor rd s names work c) (work' before after : List ℕ) (r : Line) (f : GivesFirst rd s names work c work' before after r) where
-    pub goes_on : 0 < r.stop → AtCursor rd s names work' r.next
+  module _ (A : AtCursor rd s names work c) (work' before after : List ℕ) (r : Line) (f : GivesFirst rd s names work c work' before after (Some r)) where
+    pub goes_on : AtCursor rd s names work' r.next
     unfolding Gives
-    goes_on h = by A.lines (f.first A.walked A.walks A.lines A.rest)
+    goes_on = by A.lines (f.first A.walked A.walks A.lines A.rest)
       where
-        by : (ls : Lines) → Gives rd s A.walked names work' before after r ls → AtCursor rd s names work' r.next
-        by [] g = absurd (omega (arith, g.0))
+        by : (ls : Lines) → Gives rd s A.walked names work' before after (Some r) ls → AtCursor rd s names work' r.next
+        by [] g = absurd g
         by (l ∷ ls) g = record { walked = A.walked; walks = A.walks; lines = ls; rest = g.2 }
 
     pub line_inside : r.stop ≤ length before
     unfolding Gives
     line_inside = by A.lines (f.first A.walked A.walks A.lines A.rest)
       where
-        by : (ls : Lines) → Gives rd s A.walked names work' before after r ls → r.stop ≤ length before
-        by [] g = omega (arith, g.0)
+        by : (ls : Lines) → Gives rd s A.walked names work' before after (Some r) ls → r.stop ≤ length before
+        by [] g = absurd g
         by (l ∷ ls) g = g.1.room
 
 pub ruleset onward = (starts_at, goes_on, line_inside)

@@ -17,8 +17,7 @@ use Rattle.grammar.specs.MeaningReading.{Reading}
 use Rattle.grammar.proofs.Choosing.{clash}
 use Rattle.schemas.specs.MeaningSchemas.{Schema, TypeDecl}
 use Rattle.scope.specs.MeaningScope.{Path}
-use Rattle.lookup.specs.declared.Sought.{Sought}
-use Rattle.lookup.specs.declared.Sought.TheVariants.{At, Past}
+use Rattle.std.specs.Prelude.{Option, Some, None, Result, Ok, Err}
 use Rattle.declarations.specs.MeaningNamespace.{schemas_in, Declaration, Named, declarations, schema_name, item_name}
 use Rattle.declarations.specs.MeaningNamespace.Named.{a_type, an_entity}
 use Rattle.named_types.proofs.Few.{few}
@@ -38,12 +37,12 @@ some_bytes a b o r before after P = omega (arith, P.end)
 -- ---- the first type from a number on: what stands before it has no lines
 
 module _ (rd : Reading) (xs : List Schema) (walked : Path → Answer Bool) where
-  none_left : (n : ℕ) (ds : List Declaration) (m : ℕ) → first_type n ds ≡ Past m → type_lines rd xs walked ds ≡ []
+  none_left : (n : ℕ) (ds : List Declaration) (m : ℕ) → first_type n ds ≡ Err m → type_lines rd xs walked ds ≡ []
   unfolding first_type type_or type_lines type_lines_of
   none_left n [] m e = refl
   none_left n (d ∷ ds) m e = by d.named e (none_left (suc n) ds m)
     where
-      by : (k : Named) → type_or k n (first_type (suc n) ds) ≡ Past m → (first_type (suc n) ds ≡ Past m → type_lines rd xs walked ds ≡ []) → type_lines_of rd xs walked d.path k ++ type_lines rd xs walked ds ≡ []
+      by : (k : Named) → type_or k n (first_type (suc n) ds) ≡ Err m → (first_type (suc n) ds ≡ Err m → type_lines rd xs walked ds ≡ []) → type_lines_of rd xs walked d.path k ++ type_lines rd xs walked ds ≡ []
       by (a_type t) q rest = clash (cc)
       by (an_entity x) q rest = rest q
 
@@ -57,12 +56,12 @@ record First (xs : List Schema) (ds : List Declaration) (n m : ℕ) : Type 0 whe
   pub is : it.named ≡ a_type decl
   pub lines : (rd : Reading) (walked : Path → Answer Bool) → type_lines rd xs walked ds ≡ type_lines rd xs walked (drop on ds)
 
-first_left : (xs : List Schema) (n : ℕ) (ds : List Declaration) (m : ℕ) → first_type n ds ≡ At m → First xs ds n m
+first_left : (xs : List Schema) (n : ℕ) (ds : List Declaration) (m : ℕ) → first_type n ds ≡ Ok m → First xs ds n m
 unfolding first_type type_or type_lines type_lines_of
 first_left xs n [] m e = clash (cc)
 first_left xs n (d ∷ ds) m e = by d.named refl e (first_left xs (suc n) ds m)
   where
-    by : (k : Named) → d.named ≡ k → type_or k n (first_type (suc n) ds) ≡ At m → (first_type (suc n) ds ≡ At m → First xs ds (suc n) m) → First xs (d ∷ ds) n m
+    by : (k : Named) → d.named ≡ k → type_or k n (first_type (suc n) ds) ≡ Ok m → (first_type (suc n) ds ≡ Ok m → First xs ds (suc n) m) → First xs (d ∷ ds) n m
     by (a_type t) i q rest = let z : n ≡ m = cc in record { on = 0; place = omega arith; it = d; decl = t; there = refl; is = i; lines = λ rd walked. refl }
     by (an_entity x) i q rest =
         let f = rest q in
@@ -81,20 +80,17 @@ nth_on zero l k = rw (zero-add k) refl
 nth_on (suc n) [] k = refl
 nth_on (suc n) (x ∷ l) k = rw (suc-add n k) (nth_on n l k)
 
-module _ (s names : List ℕ) (n : ℕ) (o : Sought) (t : o ≡ type_from (schemas_in s) n) where
+module _ (s names : List ℕ) (n : ℕ) (o : Result ℕ ℕ) (t : o ≡ type_from (schemas_in s) n) where
   abbrev xs : List Schema
   xs = schemas_in s
 
   -- ---- no type is left
-  pub type_none : (m : ℕ) → o ≡ Past m → (rd : Reading) (work l : List ℕ) → GivesFirst rd s names work (on.Types n) work l l (record { stop = 0; next = on.End })
+  pub type_none : (m : ℕ) → o ≡ Err m → (rd : Reading) (work l : List ℕ) → GivesFirst rd s names work (on.Types n) work l l None
   unfolding Rest Gives types_from type_from
-  type_none m e rd work l = record { first = λ walked W ls q. rw (q.lines, none_left rd xs walked n (drop n (declarations xs)) m (sym t ∙ e)) (refl, refl, refl) }
-
-  pub type_over : (c : ℕ) → Falls (on.Types c) (record { stop = 0; next = on.End })
-  type_over c = record { fewer = λ k. absurd (omega arith) }
+  type_none m e rd work l = record { first = λ walked W ls q. rw (q.lines, none_left rd xs walked n (drop n (declarations xs)) m (sym t ∙ e)) refl }
 
   -- ---- one is
-  module _ (m : ℕ) (e : o ≡ At m) where
+  module _ (m : ℕ) (e : o ≡ Ok m) where
     found : First xs (drop n (declarations xs)) n m
     unfolding type_from
     found = first_left xs n (drop n (declarations xs)) m (sym t ∙ e)
@@ -111,13 +107,13 @@ module _ (s names : List ℕ) (n : ℕ) (o : Sought) (t : o ≡ type_from (schem
     pub type_fits : length s ≤ 65535 → Fits w64 (m + 1)
     type_fits h = Fits-under w64 (m + 1) 65536 (omega (arith, type_small h)) tt
 
-    pub type_less : length s ≤ 65535 → (stop : ℕ) → Falls (on.Types n) (record { stop = stop; next = on.Types (m + 1) })
+    pub type_less : length s ≤ 65535 → left (on.Types (m + 1)) < left (on.Types n)
     unfolding left
-    type_less h stop = let f = found in record { fewer = λ k. omega (arith, type_small h, f.place) }
+    type_less h = let f = found in omega (arith, type_small h, f.place)
 
     pub type_given : (rd : Reading) (before after : List ℕ) (stop : ℕ)
         → ((walked : Path → Answer Bool) → AllWalked rd s walked → (d : Declaration) (t : TypeDecl) → get_elem? (declarations xs) m ≡ some d → d.named ≡ a_type t → Puts (type_line (schema_name d.path).bytes (item_name d.path).bytes (flags_of rd xs walked d.path)) 0 stop before after)
-        → (work : List ℕ) → GivesFirst rd s names work (on.Types n) work before after (record { stop = stop; next = on.Types (m + 1) })
+        → (work : List ℕ) → GivesFirst rd s names work (on.Types n) work before after (Some (record { stop = stop; next = on.Types (m + 1) }))
     unfolding Rest Gives types_from type_lines type_lines_of
     type_given rd before after stop F work =
         let f = found in
@@ -132,4 +128,4 @@ module _ (s names : List ℕ) (n : ℕ) (o : Sought) (t : o ≡ type_from (schem
               );
         }
 
-pub ruleset typing = (type_none, type_over, type_stands, type_fits, type_less, type_given)
+pub ruleset typing = (type_none, type_stands, type_fits, type_less, type_given)

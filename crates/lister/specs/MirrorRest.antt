@@ -1,6 +1,7 @@
 -- What is left of a listing where its cursor stands.
-use Rattle.std.specs.Prelude.{ℕ, ◌+◌, ◌*◌, ◌-◌, ◌≤◌, ◌<◌, ◌≡◌, List, [], ◌∷◌, ◌++◌, map, Bool, length, take, drop}
+use Rattle.std.specs.Prelude.{ℕ, ◌+◌, ◌*◌, ◌-◌, ◌≤◌, ◌<◌, ◌≡◌, List, [], ◌∷◌, ◌++◌, map, Bool, Option, Some, None, length, take, drop}
 use Rattle.refusal.specs.MeaningAnswer.{Answer, mapped}
+use Rattle.refusal.specs.Told.{number_of}
 use Rattle.grammar.specs.MeaningReading.{Reading}
 use Rattle.schemas.specs.MeaningSchemas.{Schema}
 use Rattle.scope.specs.MeaningScope.{Path}
@@ -76,16 +77,18 @@ module _ (rd : Reading) (s : List ℕ) (walked : Path → Answer Bool) where
 
   -- these lines are left
   unfoldable pub Rest : (names work : List ℕ) → Cursor → Lines → Type 0
-  Rest names work (cursor.TheVariants.Refusal why) ls = ls ≡ refused_line why.number why.place ∷ []
+  Rest names work (cursor.TheVariants.Refusal why) ls = ls ≡ refused_line (number_of why.reason) why.place ∷ []
   Rest names work (cursor.TheVariants.Supertypes x) ls = SupertypesLeft names work x ls
   Rest names work (cursor.TheVariants.Parts p) ls = PartsLeft names work p ls
   Rest names work (cursor.TheVariants.Types n) ls = TypesLeft names n ls
   Rest names work cursor.TheVariants.End ls = ls ≡ []
 
   -- the first of these lines is made, and the others are left; or there is none
-  unfoldable pub Gives : (names work before after : List ℕ) → Line → Lines → Type 0
-  Gives names work before after r [] = (r.stop ≡ 0) × (after ≡ before) × Rest names work r.next []
-  Gives names work before after r (l ∷ ls) = (0 < r.stop) × Puts l 0 r.stop before after × Rest names work r.next ls
+  unfoldable pub Gives : (names work before after : List ℕ) → Option Line → Lines → Type 0
+  Gives names work before after None [] = after ≡ before
+  Gives names work before after None (l ∷ ls) = ⊥
+  Gives names work before after (Some r) [] = ⊥
+  Gives names work before after (Some r) (l ∷ ls) = (0 < r.stop) × Puts l 0 r.stop before after × Rest names work r.next ls
 
 -- some lines are left
 pub record AtCursor (rd : Reading) (s names work : List ℕ) (c : Cursor) : Type 0 where
@@ -99,7 +102,7 @@ pub record Starts (rd : Reading) (s names work : List ℕ) (c : Cursor) : Type 0
   pub all : (walked : Path → Answer Bool) → AllWalked rd s walked → (ls : Lines) × ListsBy rd s walked ls × Rest rd s walked names work c ls
 
 -- whatever the walks answer: the first of the lines that were left is made
-pub record GivesFirst (rd : Reading) (s names work : List ℕ) (c : Cursor) (work' before after : List ℕ) (r : Line) : Type 0 where
+pub record GivesFirst (rd : Reading) (s names work : List ℕ) (c : Cursor) (work' before after : List ℕ) (r : Option Line) : Type 0 where
   pub first : (walked : Path → Answer Bool) → AllWalked rd s walked → (ls : Lines) → Rest rd s walked names work c ls → Gives rd s walked names work' before after r ls
 
 -- no fewer than there are lines left: a supertype has fewer than 65,536, and so have the types
@@ -111,11 +114,12 @@ left (cursor.TheVariants.Types n) = 65536 - n
 left cursor.TheVariants.End = 0
 
 -- there are fewer after a line
-pub record Falls (c : Cursor) (r : Line) : Type 0 where
-  pub fewer : 0 < r.stop → left r.next < left c
+abbrev pub Falls : Cursor → Option Line → Type 0
+Falls c None = Unit {0}
+Falls c (Some r) = left r.next < left c
 
 -- the lines that are made from a cursor on, until none is: each is what stands in the lent bytes up to the stop
 pub data Makes (rd : Reading) (s names : List ℕ) : (work : List ℕ) → Cursor → Lines → Type 0 where
-  over : {work work' before after : List ℕ} {c : Cursor} {r : Line} → GivesFirst rd s names work c work' before after r → r.stop ≡ 0 → Makes rd s names work c []
-  line : {work work' before after : List ℕ} {c : Cursor} {r : Line} {ls : Lines} → GivesFirst rd s names work c work' before after r → 0 < r.stop
+  over : {work work' before after : List ℕ} {c : Cursor} → GivesFirst rd s names work c work' before after None → Makes rd s names work c []
+  line : {work work' before after : List ℕ} {c : Cursor} {r : Line} {ls : Lines} → GivesFirst rd s names work c work' before after (Some r)
       → Makes rd s names work' r.next ls → Makes rd s names work c (take r.stop after ∷ ls)

@@ -8,17 +8,14 @@ ghost use Rattle.lister.specs.MirrorRest.{Ready, AtCursor, Starts, GivesFirst, F
 ghost use Rattle.lister.specs.declared.Cursor.TheVariants as on;
 
 use complex_entity::PartialComplexEntity;
-use expression::Valued;
-use gathering::{Gathered, Streams};
+use gathering::Streams;
 use listing::{part_line, supertype_line_of, type_from, type_line_of};
-use lookup::Sought;
 use merging::{Entry, next_owner};
 use noting::note_names;
-use query::Verdict;
 use refusal::Refusal;
 use sheet::Reading;
 use supertypes::{RECORDS, gathered, list_of};
-use text::{Count, refused_line};
+use text::refused_line;
 
 // The records of gathering, from the place of one on.
 #[derive(Clone, Copy)]
@@ -45,7 +42,7 @@ pub enum Cursor {
     End,
 }
 
-// A line ends at its stop; where none is left the stop is 0.
+// Where a line ends, and what comes after it.
 #[derive(Clone, Copy)]
 pub struct Line {
     pub stop: usize,
@@ -60,16 +57,17 @@ pub fn start(reading: Reading, sheet: &[u8], names: &mut [u16], workspace: &mut 
     requires { 32768 ≤ length workspace.old }
     ensures { Starts (told_reading reading) sheet.now names.new workspace.new result }
 {
-    match gathered(reading, sheet, Verdict::Done, workspace) {
-        Gathered::Refused(why) => Cursor::Refusal(why),
-        Gathered::Done(streams) => {
+    match gathered(reading, sheet, Ok(()), workspace) {
+        Ok(((), streams)) => {
             note_names(sheet, names);
             Cursor::Supertypes(Records { streams, at: 0 })
         }
+        Err(why) => Cursor::Refusal(why),
     }
 }
 
-// The next line, made at the front of `out`, and what comes after it.
+// The next line, made at the front of `out`, if one is left.
+// The reading, the sheet and the names stay apart: a struct of them is no plainer, since every call below takes it apart again, and some take one or two of them.
 pub fn next_line(
     reading: Reading,
     sheet: &[u8],
@@ -77,26 +75,23 @@ pub fn next_line(
     workspace: &mut [u16],
     cursor: Cursor,
     out: &mut [u8],
-) -> Line
+) -> Option<Line>
     requires at_cursor { AtCursor (told_reading reading) sheet.now names.now workspace.old cursor }
     requires most_line_in_bounds { most_line ≤ length out.old }
     ensures gives { GivesFirst (told_reading reading) sheet.now names.now workspace.old cursor workspace.new out.old out.new result }
     ensures falls { Falls cursor result }
 {
     match cursor {
-        Cursor::Refusal(why) => Line {
+        Cursor::Refusal(why) => Some(Line {
             stop: refused_line(out, why),
             next: Cursor::End,
-        },
+        }),
         Cursor::Supertypes(records) => {
             next_supertype(reading, sheet, names, workspace, records, out)
         }
         Cursor::Parts(parts) => next_part(reading, sheet, names, workspace, parts, out),
         Cursor::Types(number) => next_type(reading, sheet, names, number, out),
-        Cursor::End => Line {
-            stop: 0,
-            next: Cursor::End,
-        },
+        Cursor::End => None,
     }
 }
 
@@ -108,35 +103,30 @@ fn next_supertype(
     workspace: &mut [u16],
     records: Records,
     out: &mut [u8],
-) -> Line
+) -> Option<Line>
     requires at_cursor { AtCursor (told_reading reading) sheet.now names.now workspace.old (on.Supertypes records) }
     requires most_line_in_bounds { most_line ≤ length out.old }
     ensures gives { GivesFirst (told_reading reading) sheet.now names.now workspace.old (on.Supertypes records) workspace.new out.old out.new result }
     ensures falls { Falls (on.Supertypes records) result }
 {
-    let streams = records.streams;
-    let used = streams.used;
-    let at = records.at;
-    let Entry::At { owner, next } = next_owner(&workspace[..used], at) else {
+    let Records { streams, at } = records;
+    let Some(Entry { owner, next }) = next_owner(&workspace[..streams.used], at) else {
         return next_type(reading, sheet, names, 0, out);
     };
     let then = Records { streams, at: next };
     match list_of(workspace, streams, owner) {
-        Valued::Refused(why) => Line {
-            stop: supertype_line_of(sheet, names, owner as usize, Count::Refused(why), out),
+        Ok(list) => Some(Line {
+            stop: supertype_line_of(sheet, names, owner as usize, Ok(list.count), out),
+            next: Cursor::Parts(Parts {
+                number: 0,
+                count: list.count,
+                then,
+            }),
+        }),
+        Err(why) => Some(Line {
+            stop: supertype_line_of(sheet, names, owner as usize, Err(why), out),
             next: Cursor::Supertypes(then),
-        },
-        Valued::Is(list) => {
-            let count = list.count;
-            Line {
-                stop: supertype_line_of(sheet, names, owner as usize, Count::Is(count), out),
-                next: Cursor::Parts(Parts {
-                    number: 0,
-                    count,
-                    then,
-                }),
-            }
-        }
+        }),
     }
 }
 
@@ -148,45 +138,48 @@ fn next_part(
     workspace: &mut [u16],
     parts: Parts,
     out: &mut [u8],
-) -> Line
+) -> Option<Line>
     requires at_cursor { AtCursor (told_reading reading) sheet.now names.now workspace.old (on.Parts parts) }
     requires most_line_in_bounds { most_line ≤ length out.old }
     ensures gives { GivesFirst (told_reading reading) sheet.now names.now workspace.old (on.Parts parts) workspace.new out.old out.new result }
     ensures falls { Falls (on.Parts parts) result }
 {
-    let number = parts.number;
-    let count = parts.count;
-    let then = parts.then;
+    let Parts {
+        number,
+        count,
+        then,
+    } = parts;
     if count <= number {
         return next_supertype(reading, sheet, names, workspace, then, out);
     }
     let at = RECORDS + PartialComplexEntity::ROW * number;
     let stop = part_line(sheet, names, number, &workspace[at..], out);
-    Line {
-        stop,
-        next: Cursor::Parts(Parts {
-            number: number + 1,
-            count,
-            then,
-        }),
-    }
+    let next = Cursor::Parts(Parts {
+        number: number + 1,
+        count,
+        then,
+    });
+    Some(Line { stop, next })
 }
 
 // The line of the first type from the number on.
-fn next_type(reading: Reading, sheet: &[u8], names: &[u16], number: usize, out: &mut [u8]) -> Line
+fn next_type(
+    reading: Reading,
+    sheet: &[u8],
+    names: &[u16],
+    number: usize,
+    out: &mut [u8],
+) -> Option<Line>
     requires ready { Ready sheet.now names.now }
     requires most_line_in_bounds { most_line ≤ length out.old }
     ensures gives { (work : List ℕ) → GivesFirst (told_reading reading) sheet.now names.now work (on.Types number) work out.old out.new result }
     ensures falls { Falls (on.Types number) result }
 {
-    let Sought::At(n) = type_from(sheet, number) else {
-        return Line {
-            stop: 0,
-            next: Cursor::End,
-        };
+    let Ok(found) = type_from(sheet, number) else {
+        return None;
     };
-    Line {
-        stop: type_line_of(reading, sheet, names, n, out),
-        next: Cursor::Types(n + 1),
-    }
+    Some(Line {
+        stop: type_line_of(reading, sheet, names, found, out),
+        next: Cursor::Types(found + 1),
+    })
 }

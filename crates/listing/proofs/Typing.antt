@@ -18,19 +18,21 @@ use Rattle.schemas.specs.MeaningSchemas.{TypeDecl, type_of, entity_of, Schema}
 use Rattle.scope.specs.MeaningScope.{Path, same_path}
 use Rattle.scope.specs.MeaningScope.ScopeType.{type}
 use Rattle.lookup.specs.declared.Span.{Span}
-use Rattle.lookup.specs.declared.Sought.{Sought}
-use Rattle.lookup.specs.declared.Sought.TheVariants as sought
+use Rattle.std.specs.Prelude as prelude
+use Rattle.std.specs.Prelude.{Some, None, Result, Ok, Err, IsErrAnd}
+use Rattle.std.specs.Option.{ok_or}
+use Rattle.std.proofs.lemmas.Result.{err_from_is_err_and}
+use Rattle.refusal.specs.declared.Reason.{Reason}
+use Rattle.refusal.specs.Told.{told}
+use Rattle.refusal.specs.declared.Reason.TheVariants.{NoDeclaration}
 use Rattle.declarations.specs.MeaningNamespace.{schemas_in, Named, a_type, an_entity, Declaration, scope_in, item_of, path_in, declared_by, numbered, entries_from, all_of, declarations, declaration_for, outermost, schema_name, item_name}
-use Rattle.standing.specs.MirrorDeclared.{named_at, Stands, StandsAt}
+use Rattle.standing.specs.MirrorDeclared.{named_at, StandsAt}
 use Rattle.declarations.specs.MirrorNamespace.{sought_of, path_to}
 use Rattle.standing.specs.declared.Declared.{Declared}
-use Rattle.standing.specs.declared.Declared.TheVariants.{At, Past}
 use Rattle.declarations.proofs.Scopes.{declaration_same, own_path_law}
 use Rattle.named_types.specs.MeaningWalk.{is_enumeration}
 use Rattle.named_types.specs.MirrorTypes.{walked_by}
-use Rattle.named_types.specs.MirrorCode.{told_walked}
-use Rattle.named_types.specs.declared.Walked.{Walked}
-use Rattle.named_types.specs.declared.Walked.TheVariants as walked
+use Rattle.named_types.proofs.Answered.{ok_or_some, ok_or_none}
 use Rattle.named_types.proofs.Few.{few}
 use Rattle.named_types.proofs.Proved.{walks_once}
 use Rattle.named_types.proofs.Finding.{walks_nowhere, walks_there, enumerates_there}
@@ -38,7 +40,6 @@ use Rattle.text.specs.MeaningText.{type_line}
 use Rattle.text.specs.MirrorText.{Puts}
 use Rattle.text.specs.Told.{told_flags}
 use Rattle.text.specs.declared.Flags.{Flags}
-use Rattle.text.specs.declared.Flags.TheVariants.{Are, Refused}
 use Rattle.noting.specs.MeaningNames.{names_at, names_of}
 use Rattle.noting.specs.MirrorNoted.{bytes_at, Spells}
 use Rattle.listing.specs.MeaningListing.{flags_of}
@@ -71,24 +72,24 @@ pub record Seeking (s : List ℕ) (from n : ℕ) : Type 0 where
 pub seek_start : (s : List ℕ) (from : ℕ) → Seeking s from from
 seek_start s from = record { left = refl }
 
-module _ (s : List ℕ) (from n : ℕ) (f : Seeking s from n) (o : Declared) (w : StandsAt s (declarations (schemas_in s)) n o) where
-  pub seek_none : (m : ℕ) → o ≡ Past m → sought.Past n ≡ type_from (schemas_in s) from
+module _ (s : List ℕ) (from n : ℕ) (f : Seeking s from n) (o : Result Declared ℕ) (w : StandsAt s (declarations (schemas_in s)) n o) where
+  pub seek_none : (m : ℕ) → o ≡ Err m → Err n ≡ type_from (schemas_in s) from
   unfolding type_from first_type
   seek_none m g =
       let z : get_elem? (declarations (schemas_in s)) n ≡ none = (subst (StandsAt s (declarations (schemas_in s)) n) g w).0 in
       sym (f.left ∙ ap (first_type n) (nth_none (declarations (schemas_in s)) n z))
 
-  module _ (x y t a b : ℕ) (g : o ≡ At x y t a b) where
-    it_stands : Stands s (declarations (schemas_in s)) n x y t a b
+  module _ (d : Declared) (g : o ≡ Ok d) where
+    it_stands : StandsAt s (declarations (schemas_in s)) n (Ok d)
     it_stands = subst (StandsAt s (declarations (schemas_in s)) n) g w
 
     below : n < length (declarations (schemas_in s))
     below = nth_below (declarations (schemas_in s)) n it_stands.it it_stands.there
 
     -- the declaration itself decides
-    here : (d : Named) → named_at t it_stands.place (tree_at s a b) ≡ d → type_from (schemas_in s) from ≡ type_or d n (type_from (schemas_in s) (n + 1))
+    here : (m : Named) → named_at d.tag it_stands.place (tree_at s d.item.start d.item.stop) ≡ m → type_from (schemas_in s) from ≡ type_or m n (type_from (schemas_in s) (n + 1))
     unfolding type_from first_type
-    here d e =
+    here m e =
         let st = it_stands in
         f.left
         ∙ ap (first_type n) (nth_drop (declarations (schemas_in s)) n st.it st.there)
@@ -101,45 +102,48 @@ module _ (s : List ℕ) (from n : ℕ) (f : Seeking s from n) (o : Declared) (w 
     pub seek_less : length (declarations (schemas_in s)) - (n + 1) < length (declarations (schemas_in s)) - n
     seek_less = omega (arith, below)
 
-    pub seek_found : t ≡ 0x20 → sought.At n ≡ type_from (schemas_in s) from
+    pub seek_found : d.tag ≡ 0x20 → Ok n ≡ type_from (schemas_in s) from
     unfolding type_or named_at
-    seek_found e = sym (here (a_type (type_of it_stands.place (tree_at s a b))) (rw (eq-eqb t 0x20 e) refl))
+    seek_found e = sym (here (a_type (type_of it_stands.place (tree_at s d.item.start d.item.stop))) (rw (eq-eqb d.tag 0x20 e) refl))
 
-    pub seek_on : (t ≡ 0x20 → ⊥) → Seeking s from (n + 1)
+    pub seek_on : (d.tag ≡ 0x20 → ⊥) → Seeking s from (n + 1)
     unfolding type_or named_at
-    seek_on e = record { left = here (an_entity (entity_of it_stands.place (tree_at s a b))) (rw (ne_eqb t 0x20 e) refl) }
+    seek_on e = record { left = here (an_entity (entity_of it_stands.place (tree_at s d.item.start d.item.stop))) (rw (ne_eqb d.tag 0x20 e) refl) }
 
 pub ruleset seeking = (seek_start, seek_none, seek_less, seek_found, seek_on)
 
 -- ---- the flags at a path: the first declaration with an equal path decides
 
-module _ (rd : Reading) (s sc w : List ℕ) (v : Sought) (vv : v ≡ sought_of (declaration_for rd (schemas_in s) (path_to sc type w))) where
+module _ (rd : Reading) (s sc w : List ℕ) (v : prelude.Option ℕ) (vv : v ≡ sought_of (declaration_for rd (schemas_in s) (path_to sc type w))) where
   found_for : (p : Path) → same_path rd p (path_to sc type w) ≡ true → v ≡ sought_of (declaration_for rd (schemas_in s) p)
   found_for p i = vv ∙ ap sought_of (sym (declaration_same rd (schemas_in s) p (path_to sc type w) i))
 
-  pub flags_nowhere : (n : ℕ) → v ≡ sought.Past n → (why : Refusal) → why ≡ record { number = 7; place = 0 }
-      → (walked : Path → Answer Bool) → AllWalked rd s walked → (p : Path) → same_path rd p (path_to sc type w) ≡ true → told_flags (Refused why) ≡ flags_of rd (schemas_in s) walked p
+  pub flags_nowhere : (y : Reason) → Err y ≡ ok_or v NoDeclaration → (t : Result Flags Refusal) → IsErrAnd t (λ r. r ≡ record { reason = y; place = 0 })
+      → (walked : Path → Answer Bool) → AllWalked rd s walked → (p : Path) → same_path rd p (path_to sc type w) ≡ true → told_flags t ≡ flags_of rd (schemas_in s) walked p
   unfolding AllWalked flags_of
-  flags_nowhere n e why k walked W p i =
-      rw (k, walks_once rd (schemas_in s) p (walked p) (refused 7 0) (W p) (walks_nowhere rd (schemas_in s) p v (found_for p i) n e)) refl
+  flags_nowhere y e t j walked W p i =
+      let n = ok_or_none v NoDeclaration y e in
+      let r = err_from_is_err_and t j in
+      rw (r.1, r.2, n.1, walks_once rd (schemas_in s) p (walked p) (refused 7 0) (W p) (walks_nowhere rd (schemas_in s) p v (found_for p i) n.0)) refl
 
-  module _ (n : ℕ) (e : v ≡ sought.At n) (k : Walked) (kk : told_walked k ≡ walked_by rd (schemas_in s) (length (declarations (schemas_in s)) - 1) n) where
-    walked_there : (walked : Path → Answer Bool) → AllWalked rd s walked → (p : Path) → same_path rd p (path_to sc type w) ≡ true → walked p ≡ told_walked k
+  module _ (n m : ℕ) (e : Ok n ≡ ok_or v NoDeclaration) (j : m ≡ n) (k : Result Bool Refusal) (kk : told k ≡ walked_by rd (schemas_in s) (length (declarations (schemas_in s)) - 1) m) where
+    there : v ≡ Some m
+    there = ok_or_some v NoDeclaration n e ∙ ap Some (sym j)
+
+    walked_there : (walked : Path → Answer Bool) → AllWalked rd s walked → (p : Path) → same_path rd p (path_to sc type w) ≡ true → walked p ≡ told k
     unfolding AllWalked
-    walked_there walked W p i = walks_once rd (schemas_in s) p (walked p) (told_walked k) (W p) (walks_there rd (schemas_in s) p v (found_for p i) n e k kk)
+    walked_there walked W p i = walks_once rd (schemas_in s) p (walked p) (told k) (W p) (walks_there rd (schemas_in s) p v (found_for p i) m there k kk)
 
-    pub flags_known : (flag : Bool) → ((r : Reading) → flag ≡ is_enumeration r (schemas_in s) (get_elem? (declarations (schemas_in s)) n)) → (b : Bool) → k ≡ walked.Ends b
-        → (walked : Path → Answer Bool) → AllWalked rd s walked → (p : Path) → same_path rd p (path_to sc type w) ≡ true → told_flags (Are (record { simple = b; enumeration = flag })) ≡ flags_of rd (schemas_in s) walked p
-    unfolding flags_of told_walked
+    pub flags_known : (flag : Bool) → ((r : Reading) → flag ≡ is_enumeration r (schemas_in s) (get_elem? (declarations (schemas_in s)) m)) → (b : Bool) → k ≡ Ok b
+        → (walked : Path → Answer Bool) → AllWalked rd s walked → (p : Path) → same_path rd p (path_to sc type w) ≡ true → told_flags (Ok (record { simple = b; enumeration = flag })) ≡ flags_of rd (schemas_in s) walked p
+    unfolding flags_of
     flags_known flag f b z walked W p i =
-        rw (walked_there walked W p i, z, enumerates_there rd (schemas_in s) p v (found_for p i) n e flag f) refl
+        rw (walked_there walked W p i, z, enumerates_there rd (schemas_in s) p v (found_for p i) m there flag f) refl
 
-    pub flags_refused : (why : Refusal) → k ≡ walked.Refused why
-        → (walked : Path → Answer Bool) → AllWalked rd s walked → (p : Path) → same_path rd p (path_to sc type w) ≡ true → told_flags (Refused why) ≡ flags_of rd (schemas_in s) walked p
-    unfolding flags_of told_walked
-    flags_refused why z walked W p i = rw (walked_there walked W p i, z) refl
-
-pub ruleset flagging = (flags_nowhere, flags_known, flags_refused)
+    pub flags_refused : (why : Refusal) → k ≡ Err why → (t : Result Flags Refusal) → IsErrAnd t (λ r. r ≡ why)
+        → (walked : Path → Answer Bool) → AllWalked rd s walked → (p : Path) → same_path rd p (path_to sc type w) ≡ true → told_flags t ≡ flags_of rd (schemas_in s) walked p
+    unfolding flags_of
+    flags_refused why z t a walked W p i = let r = err_from_is_err_and t a in rw (r.1, r.2, walked_there walked W p i, z) refl
 
 -- ---- the line of a type, by its number
 
@@ -180,7 +184,7 @@ module _ (rd : Reading) (s : List ℕ) (index : ℕ) (v w : Span) (f : Spells s 
     unfolding names_of names_at
     item_its = l ∙ g.there ∙ ap (λ (o : Option Declaration). (names_at o).item) e
 
-  pub puts_type : (at r : ℕ) (x y : List ℕ) (o : Flags)
+  pub puts_type : (at r : ℕ) (x y : List ℕ) (o : Result Flags Refusal)
       → ((walked : Path → Answer Bool) → AllWalked rd s walked → (p : Path) → same_path rd p (path_to a type b) ≡ true → told_flags o ≡ flags_of rd (schemas_in s) walked p)
       → Puts (type_line a b (told_flags o)) at r x y
       → (walked : Path → Answer Bool) → AllWalked rd s walked → (d : Declaration) (t : TypeDecl) → get_elem? (declarations (schemas_in s)) index ≡ some d → d.named ≡ a_type t

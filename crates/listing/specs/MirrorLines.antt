@@ -1,5 +1,5 @@
 -- What the lines' code asks of a sheet and of a row; the line of a supertype and the next type, by their numbers.
-use Rattle.std.specs.Prelude.{ℕ, suc, ◌≤◌, ◌≡◌, List, [], ◌∷◌, length, drop, get_or}
+use Rattle.std.specs.Prelude.{ℕ, suc, ◌≤◌, ◌≡◌, List, [], ◌∷◌, Result, Ok, Err, length, drop, get_or}
 use Rattle.std.proofs.Math.Option.{some}
 use Rattle.std.proofs.Math.ListN.{get_elem?}
 use Rattle.refusal.specs.MeaningAnswer.{Answer}
@@ -7,8 +7,6 @@ use Rattle.complex_entity.specs.MeaningRising.{◌∈◌}
 use Rattle.complex_entity.specs.MeaningParts.{most_names}
 use Rattle.grammar.specs.MeaningGrammar.{most_name_bytes}
 use Rattle.schemas.specs.MeaningSchemas.{TypeDecl, Schema}
-use Rattle.lookup.specs.declared.Sought.{Sought}
-use Rattle.lookup.specs.declared.Sought.TheVariants.{At, Past}
 use Rattle.declarations.specs.MeaningNamespace.{schemas_in, Declaration, Named, declarations, schema_name, item_name}
 use Rattle.declarations.specs.MeaningNamespace.Named.{a_type, an_entity}
 use Rattle.text.specs.MeaningText.{supertype_line}
@@ -41,13 +39,13 @@ pub record IsType (xs : List Schema) (m : ℕ) : Type 0 where
   pub is : it.named ≡ a_type decl
 
 -- the number of the first type among declarations numbered from n on; where there is none, the number after the last
-unfoldable pub type_or : Named → ℕ → Sought → Sought
-type_or (a_type t) n later = At n
+unfoldable pub type_or : Named → ℕ → Result ℕ ℕ → Result ℕ ℕ
+type_or (a_type t) n later = Ok n
 type_or (an_entity e) n later = later
 
-unfoldable pub first_type : ℕ → List Declaration → Sought
-first_type n [] = Past n
+unfoldable pub first_type : ℕ → List Declaration → Result ℕ ℕ
+first_type n [] = Err n
 first_type n (d ∷ ds) = type_or d.named n (first_type (suc n) ds)
 
-unfoldable pub type_from : List Schema → ℕ → Sought
+unfoldable pub type_from : List Schema → ℕ → Result ℕ ℕ
 type_from xs n = first_type n (drop n (declarations xs))

@@ -7,9 +7,9 @@ use native.Mathlib.Nat.{not-suc-le-zero, le_refl}
 use native.Mathlib.Omega.{arith}
 use lib.Dec.{eqb}
 use lib.ListN.{length}
+use Rattle.std.specs.Prelude.{Option, Some, None}
 use Rattle.sheet.specs.MirrorField.{field_at}
-use Rattle.sheet.specs.declared.Header.{Header}
-use Rattle.sheet.specs.declared.Header.TheVariants.{Field, Passes}
+use Rattle.sheet.specs.declared.Field.{Field}
 use Rattle.forest.specs.MeaningPlaces.{nests}
 use Rattle.forest.proofs.Laying.{part}
 use Rattle.schemas.specs.MeaningTree.{Tree, tree_at}
@@ -32,20 +32,20 @@ one_more u true t p v g f = go (eqb t u)
 abbrev Few : List ℕ → ℕ → ℕ → ℕ → ℕ → Type 0
 Few s at e t u = length (each t itself (tree_at s at e)) + length (each u itself (tree_at s at e)) ≤ e - at
 
-step : (s : List ℕ) (at e t u : ℕ) (h : Header) → h ≡ field_at s at e → ((b : ℕ) → at < b → b ≤ e → Few s b e t u) → Few s at e t u
-step s at e t u Passes w go =
-    let x : length (each t itself (tree_at s at e)) ≡ 0 = ap length (none_left s at e Passes w t itself refl) in
-    let y : length (each u itself (tree_at s at e)) ≡ 0 = ap length (none_left s at e Passes w u itself refl) in
+step : (s : List ℕ) (at e t u : ℕ) (h : Option Field) → h ≡ field_at s at e → ((b : ℕ) → at < b → b ≤ e → Few s b e t u) → Few s at e t u
+step s at e t u None w go =
+    let x : length (each t itself (tree_at s at e)) ≡ 0 = ap length (none_left s at e None w t itself refl) in
+    let y : length (each u itself (tree_at s at e)) ≡ 0 = ap length (none_left s at e None w u itself refl) in
     omega arith
-step s at e t u (Field k a b) w go =
-    let o = field_on s at e (Field k a b) w k a b refl in
-    let i = field_in s at e (Field k a b) w k a b refl in
-    let r = go b o i in
-    let g = tree_field s at e (Field k a b) w k a b refl in
-    let x : length (each t itself (tree_at s at e)) ≤ suc (length (each t itself (tree_at s b e))) = rw g (one_more t (nests k) k at (part s a b) (tree_at s a b) (tree_at s b e)) in
-    let y : length (each u itself (tree_at s at e)) ≤ suc (length (each u itself (tree_at s b e))) = rw g (one_more u (nests k) k at (part s a b) (tree_at s a b) (tree_at s b e)) in
-    let z = field_start s at e (Field k a b) w k a b refl in
-    let v = field_order s at e (Field k a b) w k a b refl in
+step s at e t u (Some f) w go =
+    let o = field_on s at e (Some f) w f refl in
+    let i = field_in s at e (Some f) w f refl in
+    let r = go f.stop o i in
+    let g = tree_field s at e (Some f) w f refl in
+    let x : length (each t itself (tree_at s at e)) ≤ suc (length (each t itself (tree_at s f.stop e))) = rw g (one_more t (nests f.tag) f.tag at (part s f.start f.stop) (tree_at s f.start f.stop) (tree_at s f.stop e)) in
+    let y : length (each u itself (tree_at s at e)) ≤ suc (length (each u itself (tree_at s f.stop e))) = rw g (one_more u (nests f.tag) f.tag at (part s f.start f.stop) (tree_at s f.start f.stop) (tree_at s f.stop e)) in
+    let z = field_start s at e (Some f) w f refl in
+    let v = field_order s at e (Some f) w f refl in
     omega arith
 
 few_by : (n : ℕ) (s : List ℕ) (at e t u : ℕ) → e - at < n → Few s at e t u

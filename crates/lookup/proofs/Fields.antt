@@ -6,11 +6,11 @@ use Prim.Native.Nat.{ℕ, ◌+◌, ◌-◌, ◌<◌, ◌≤◌}
 use native.Mathlib.Omega.{arith}
 use lib.Dec.{ltb, eqb}
 use lib.ListN.{length}
+use Rattle.std.specs.Prelude.{Option, Some, None}
 use Rattle.grammar.specs.MeaningGrammar.{kind_of, one_of}
 use Rattle.sheet.specs.MeaningSheet.{size_of}
 use Rattle.sheet.specs.MirrorField.{field_at}
-use Rattle.sheet.specs.declared.Header.{Header}
-use Rattle.sheet.specs.declared.Header.TheVariants.{Field, Passes}
+use Rattle.sheet.specs.declared.Field.{Field}
 use Rattle.grammar.proofs.Choosing.{either}
 use Rattle.sheet.proofs.Deciding.{inside}
 use Rattle.forest.specs.MeaningPlaces.{nests}
@@ -32,55 +32,55 @@ pub nests_entity : nests 0x30 ≡ true
 unfolding kind_of one_of
 nests_entity = refl
 
-abbrev Starts : ℕ → Header → Type 0
-Starts at Passes = Unit {0}
-Starts at (Field t a b) = a ≡ at + 3
+abbrev Starts : ℕ → Option Field → Type 0
+Starts at None = Unit {0}
+Starts at (Some f) = f.start ≡ at + 3
 
 starts : (s : List ℕ) (at e : ℕ) → Starts at (field_at s at e)
 unfolding field_at
-starts s at e = either (Starts at) (ltb (e - at) 3) Passes _ (λ _. tt) (λ h. either (Starts at) (ltb (e - (at + 3)) (size_of s at)) Passes _ (λ _. tt) (λ k. refl))
+starts s at e = either (Starts at) (ltb (e - at) 3) None _ (λ _. tt) (λ h. either (Starts at) (ltb (e - (at + 3)) (size_of s at)) None _ (λ _. tt) (λ k. refl))
 
 -- h is the answer of `field_at`
-module _ (s : List ℕ) (at e : ℕ) (h : Header) (w : h ≡ field_at s at e) where
-  pub tree_none : h ≡ Passes → tree_at s at e ≡ nil
+module _ (s : List ℕ) (at e : ℕ) (h : Option Field) (w : h ≡ field_at s at e) where
+  pub tree_none : h ≡ None → tree_at s at e ≡ nil
   tree_none q = subst (Grows s at e) (sym w ∙ q) (grows s at e)
 
   -- no field is left
-  pub none_left : {A : Type 0} (u : ℕ) (read : ℕ → Tree → A) → h ≡ Passes → each u read (tree_at s at e) ≡ []
+  pub none_left : {A : Type 0} (u : ℕ) (read : ℕ → Tree → A) → h ≡ None → each u read (tree_at s at e) ≡ []
   unfolding each
   none_left u read q = ap (each u read) (tree_none q)
 
-  module _ (t a b : ℕ) (q : h ≡ Field t a b) where
-    lies : (at < a) × (a ≤ b) × (b ≤ e)
+  module _ (f : Field) (q : h ≡ Some f) where
+    lies : (at < f.start) × (f.start ≤ f.stop) × (f.stop ≤ e)
     lies = let i = inside s at e in rw (sym w ∙ q) at i
 
-    pub tree_field : tree_at s at e ≡ onto (nests t) t at (part s a b) (tree_at s a b) (tree_at s b e)
+    pub tree_field : tree_at s at e ≡ onto (nests f.tag) f.tag at (part s f.start f.stop) (tree_at s f.start f.stop) (tree_at s f.stop e)
     tree_field = subst (Grows s at e) (sym w ∙ q) (grows s at e)
 
     -- a field with the tag stands here
-    pub one_here : {A : Type 0} (read : ℕ → Tree → A) (u : ℕ) → t ≡ u → nests u ≡ true → each u read (tree_at s at e) ≡ read at (tree_at s a b) ∷ each u read (tree_at s b e)
-    one_here read u k n = ap (each u read) (rw (k, n) at tree_field) ∙ each_here u at read (part s a b) (tree_at s a b) (tree_at s b e)
+    pub one_here : {A : Type 0} (read : ℕ → Tree → A) (u : ℕ) → f.tag ≡ u → nests u ≡ true → each u read (tree_at s at e) ≡ read at (tree_at s f.start f.stop) ∷ each u read (tree_at s f.stop e)
+    one_here read u k n = ap (each u read) (rw (k, n) at tree_field) ∙ each_here u at read (part s f.start f.stop) (tree_at s f.start f.stop) (tree_at s f.stop e)
 
     -- another one does
-    pub other_here : {A : Type 0} (read : ℕ → Tree → A) (u : ℕ) → (t ≡ u → ⊥) → each u read (tree_at s at e) ≡ each u read (tree_at s b e)
-    other_here read u d = ap (each u read) tree_field ∙ each_other u t at read (nests t) (part s a b) (tree_at s a b) (tree_at s b e) d
+    pub other_here : {A : Type 0} (read : ℕ → Tree → A) (u : ℕ) → (f.tag ≡ u → ⊥) → each u read (tree_at s at e) ≡ each u read (tree_at s f.stop e)
+    other_here read u d = ap (each u read) tree_field ∙ each_other u f.tag at read (nests f.tag) (part s f.start f.stop) (tree_at s f.start f.stop) (tree_at s f.stop e) d
 
-    pub field_start : a ≡ at + 3
+    pub field_start : f.start ≡ at + 3
     field_start = subst (Starts at) (sym w ∙ q) (starts s at e)
 
-    pub field_order : a ≤ b
+    pub field_order : f.start ≤ f.stop
     field_order = lies.1
 
-    pub field_in : b ≤ e
+    pub field_in : f.stop ≤ e
     field_in = lies.2
 
-    pub field_on : at < b
+    pub field_on : at < f.stop
     field_on = let i = lies in omega arith
 
-    pub field_there : e ≤ length s → b ≤ length s
+    pub field_there : e ≤ length s → f.stop ≤ length s
     field_there k = let i = lies in omega arith
 
-    pub field_less : e - b < e - at
+    pub field_less : e - f.stop < e - at
     field_less = let i = lies in omega arith
 
 pub ruleset fields = (field_order, field_in, field_there, field_less)

@@ -6,11 +6,11 @@ use Prim.Native.Nat.{ℕ, ◌+◌, ◌-◌, ◌≤◌}
 use native.Mathlib.Omega.{arith}
 use borrow.Author.Tests.{ne_eqb}
 use lib.ListN.{length, take, drop}
+use Rattle.std.specs.Prelude.{Option, Some, None}
 use Rattle.grammar.specs.MeaningReading.{Reading}
 use Rattle.sheet.specs.MeaningName.{Name}
 use Rattle.sheet.specs.MirrorField.{field_at}
-use Rattle.sheet.specs.declared.Header.{Header}
-use Rattle.sheet.specs.declared.Header.TheVariants.{Field, Passes}
+use Rattle.sheet.specs.declared.Field.{Field}
 use Rattle.forest.specs.MeaningPlaces.{nests}
 use Rattle.forest.proofs.Laying.{part, length_part}
 use Rattle.schemas.specs.MeaningTree.{Tree, tree_at}
@@ -34,48 +34,48 @@ name_here : (t p : ℕ) (v : List ℕ) (g f : Tree) → t ≡ 0x10 → name_of (
 unfolding name_of name_at
 name_here t p v g f k = rw (k, nests_name) refl
 
-module _ (s : List ℕ) (at e : ℕ) (h : Header) (w : h ≡ field_at s at e) where
-  bad_name_law : h ≡ Passes → name_of (tree_at s at e) ≡ no_name
+module _ (s : List ℕ) (at e : ℕ) (h : Option Field) (w : h ≡ field_at s at e) where
+  bad_name_law : h ≡ None → name_of (tree_at s at e) ≡ no_name
   unfolding name_of
   bad_name_law q = ap name_of (tree_none s at e h w q)
 
-  pub span_none : h ≡ Passes → record { start = 0; stop = 0 } ≡ span_of (name_of (tree_at s at e))
+  pub span_none : h ≡ None → record { start = 0; stop = 0 } ≡ span_of (name_of (tree_at s at e))
   unfolding span_of no_name
   span_none q = rw (bad_name_law q) refl
 
-  pub lies_none : h ≡ Passes → Lies s (name_of (tree_at s at e))
+  pub lies_none : h ≡ None → Lies s (name_of (tree_at s at e))
   lies_none q = rw (bad_name_law q) (no_lies s)
 
-  module _ (t a b : ℕ) (q : h ≡ Field t a b) where
-    here_name : t ≡ 0x10 → name_of (tree_at s at e) ≡ record { at = at + 3; bytes = part s a b }
-    here_name k = ap name_of (tree_field s at e h w t a b q) ∙ name_here t at (part s a b) (tree_at s a b) (tree_at s b e) k
+  module _ (f : Field) (q : h ≡ Some f) where
+    here_name : f.tag ≡ 0x10 → name_of (tree_at s at e) ≡ record { at = at + 3; bytes = part s f.start f.stop }
+    here_name k = ap name_of (tree_field s at e h w f q) ∙ name_here f.tag at (part s f.start f.stop) (tree_at s f.start f.stop) (tree_at s f.stop e) k
 
-    other_name : (t ≡ 0x10 → ⊥) → name_of (tree_at s at e) ≡ no_name
-    other_name d = ap name_of (tree_field s at e h w t a b q) ∙ name_other (nests t) t at (part s a b) (tree_at s a b) (tree_at s b e) d
+    other_name : (f.tag ≡ 0x10 → ⊥) → name_of (tree_at s at e) ≡ no_name
+    other_name d = ap name_of (tree_field s at e h w f q) ∙ name_other (nests f.tag) f.tag at (part s f.start f.stop) (tree_at s f.start f.stop) (tree_at s f.stop e) d
 
-    pub span_other : (t ≡ 0x10 → ⊥) → record { start = 0; stop = 0 } ≡ span_of (name_of (tree_at s at e))
+    pub span_other : (f.tag ≡ 0x10 → ⊥) → record { start = 0; stop = 0 } ≡ span_of (name_of (tree_at s at e))
     unfolding span_of no_name
     span_other d = rw (other_name d) refl
 
-    pub lies_other : (t ≡ 0x10 → ⊥) → Lies s (name_of (tree_at s at e))
+    pub lies_other : (f.tag ≡ 0x10 → ⊥) → Lies s (name_of (tree_at s at e))
     lies_other d = rw (other_name d) (no_lies s)
 
-    long : e ≤ length s → length (part s a b) ≡ b - a
-    long k = length_part s a b (field_there s at e h w t a b q k)
+    long : e ≤ length s → length (part s f.start f.stop) ≡ f.stop - f.start
+    long k = length_part s f.start f.stop (field_there s at e h w f q k)
 
-    ends : e ≤ length s → at + 3 + length (part s a b) ≡ b
+    ends : e ≤ length s → at + 3 + length (part s f.start f.stop) ≡ f.stop
     ends k =
         let l = long k in
-        let o = field_order s at e h w t a b q in
-        let z = field_start s at e h w t a b q in
+        let o = field_order s at e h w f q in
+        let z = field_start s at e h w f q in
         omega arith
 
-    pub span_here : e ≤ length s → t ≡ 0x10 → record { start = a; stop = b } ≡ span_of (name_of (tree_at s at e))
+    pub span_here : e ≤ length s → f.tag ≡ 0x10 → record { start = f.start; stop = f.stop } ≡ span_of (name_of (tree_at s at e))
     unfolding span_of
-    span_here k d = rw (here_name d) (rw (ends k, field_start s at e h w t a b q) refl)
+    span_here k d = rw (here_name d) (rw (ends k, field_start s at e h w f q) refl)
 
-    pub lies_here : e ≤ length s → t ≡ 0x10 → Lies s (name_of (tree_at s at e))
-    lies_here k d = rw (here_name d) (record { within = rw (ends k) (field_there s at e h w t a b q k); there = rw (long k, ← field_start s at e h w t a b q) refl })
+    pub lies_here : e ≤ length s → f.tag ≡ 0x10 → Lies s (name_of (tree_at s at e))
+    lies_here k d = rw (here_name d) (record { within = rw (ends k) (field_there s at e h w f q k); there = rw (long k, ← field_start s at e h w f q) refl })
 
 pub ruleset spans = (span_none, lies_none, span_here, lies_here, span_other, lies_other)
 

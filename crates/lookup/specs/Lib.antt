@@ -1,1 +1,2 @@
 pub mod MirrorLookup
+pub mod MirrorWalk

@@ -1,5 +1,5 @@
 -- What the walks over the fields of a value answer.
-use Rattle.std.specs.Prelude.{ℕ, ◌+◌, ◌≤◌, ◌≡◌, List, [], ◌∷◌, cond, length, take, drop}
+use Rattle.std.specs.Prelude.{ℕ, ◌+◌, ◌≤◌, ◌≡◌, List, [], ◌∷◌, Result, Ok, Err, cond, length, take, drop}
 use Rattle.std.proofs.Math.Option.{none, some}
 use Rattle.std.proofs.Math.ListN.{get_elem?}
 use Rattle.grammar.specs.MeaningReading.{Reading}
@@ -8,9 +8,6 @@ use Rattle.schemas.specs.MeaningTree.{Tree, tree_at}
 use Rattle.schemas.specs.MeaningSchemas.{name_of}
 use Rattle.scope.specs.MeaningNames.{same_name}
 use Rattle.lookup.specs.declared.Span.{Span}
-use Rattle.lookup.specs.declared.Sought.{Sought}
-use Rattle.lookup.specs.declared.Sought.TheVariants.{At, Past}
-use Rattle.lookup.specs.declared.Place as place
 
 -- ---- two ways to read a field from its place and its fields; every other one goes over the second
 
@@ -35,13 +32,13 @@ pub record Lies (s : List ℕ) (x : Name) : Type 0 where
 -- ---- by name
 
 -- the number of the first equal name, counted from n, or the number after the last
-unfoldable pub look_in : Reading → List ℕ → List Name → ℕ → Sought
-look_in rd w [] n = Past n
-look_in rd w (x ∷ xs) n = cond (same_name rd x.bytes w) (At n) (look_in rd w xs (n + 1))
+unfoldable pub look_in : Reading → List ℕ → List Name → ℕ → Result ℕ ℕ
+look_in rd w [] n = Err n
+look_in rd w (x ∷ xs) n = cond (same_name rd x.bytes w) (Ok n) (look_in rd w xs (n + 1))
 
 -- ---- by number
 
 -- the k-th of these fields has its own between two places of the bytes; or there are fewer, by so many
-abbrev pub Picks : List ℕ → List (ℕ × Tree) → ℕ → place.Place → Type 0
-Picks s xs k (place.TheVariants.At a b) = (p : ℕ) × (get_elem? xs k ≡ some (p, tree_at s a b)) × (a ≤ b) × (b ≤ length s)
-Picks s xs k (place.TheVariants.Past m) = (get_elem? xs k ≡ none) × (k ≡ length xs + m)
+abbrev pub Picks : List ℕ → List (ℕ × Tree) → ℕ → Result Span ℕ → Type 0
+Picks s xs k (Ok v) = (p : ℕ) × (get_elem? xs k ≡ some (p, tree_at s v.start v.stop)) × (v.start ≤ v.stop) × (v.stop ≤ length s)
+Picks s xs k (Err m) = (get_elem? xs k ≡ none) × (k ≡ length xs + m)

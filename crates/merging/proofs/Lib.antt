@@ -4,6 +4,8 @@ pub mod Finding
 pub mod Ordering
 pub mod Renaming
 pub mod Streams
+pub mod Walking
 pub mod Asking
-pub mod Clearing
+pub mod Standing
+pub mod Owners
 pub mod Proved

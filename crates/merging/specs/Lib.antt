@@ -6,3 +6,4 @@ pub mod MeaningRenaming
 pub mod MeaningFirsts
 pub mod Claims
 pub mod MirrorStream
+pub mod MirrorWalk

@@ -1,15 +1,14 @@
 -- Gathering's items as numbers: records, one behind the other, each an owner and the nodes of its expression.
 use Rattle.std.specs.Prelude.{◌≡◌, List, [], ◌∷◌, ◌++◌, map, Bool, true, false, ℕ, ◌+◌, ◌-◌, ◌≤◌, ◌<◌, eqb, length, take, drop}
+use Rattle.std.specs.Prelude as told
+use Rattle.std.specs.Prelude.{None, Some}
 use Rattle.std.proofs.Math.Option.{Option, none, some}
 use Rattle.expression.specs.MeaningExpression.{Expr, reference, andor, «and», oneof}
 use Rattle.expression.specs.MirrorNodes.{flat}
 use Rattle.merging.specs.MeaningMerging.{Combined, Pair}
 use Rattle.merging.specs.MeaningFirsts.{firsts}
 use Rattle.merging.specs.declared.Combination.{Combination}
-use Rattle.merging.specs.declared.Entry as entry
 use Rattle.merging.specs.declared.Entry.{Entry}
-use Rattle.merging.specs.declared.Owner.{Owner}
-use Rattle.merging.specs.declared.Owner.TheVariants.{At, Past}
 
 -- rules and constraints
 unfoldable pub stream_of : List (Combined ℕ) → List ℕ
@@ -47,9 +46,11 @@ is_found none = false
 is_found (some a) = true
 
 -- the expression stands from the start to the stop, if there is one
-unfoldable pub Holds : Option (Expr ℕ) → List ℕ → Combination → Type 0
-Holds none l r = r ≡ record { found = false; start = 0; stop = 0 }
-Holds (some e) l r = (r.found ≡ true) × (r.start ≤ r.stop) × (r.stop ≤ length l) × (take (r.stop - r.start) (drop r.start l) ≡ flat e)
+unfoldable pub Holds : Option (Expr ℕ) → List ℕ → told.Option Combination → Type 0
+Holds none l None = Unit {0}
+Holds none l (Some c) = ⊥
+Holds (some e) l None = ⊥
+Holds (some e) l (Some c) = (c.start ≤ c.stop) × (c.stop ≤ length l) × (take (c.stop - c.start) (drop c.start l) ≡ flat e)
 
 -- behind the header, or with it: the terms of an ANDOR under a new header are the ANDOR itself
 unfoldable pub begins : Expr ℕ → ℕ
@@ -59,14 +60,15 @@ begins («and» t) = 3
 begins (oneof t) = 3
 
 -- where the expression of these items stands, if no subtype is left over
-unfoldable pub alone_of : List (Expr ℕ) → ℕ → Combination
-alone_of [] stop = record { found = false; start = 0; stop = 0 }
-alone_of (e ∷ []) stop = record { found = true; start = begins e; stop = stop }
-alone_of (e ∷ d ∷ es) stop = record { found = true; start = 0; stop = stop }
+unfoldable pub alone_of : List (Expr ℕ) → ℕ → told.Option Combination
+alone_of [] stop = None
+alone_of (e ∷ []) stop = Some (record { start = begins e; stop = stop })
+alone_of (e ∷ d ∷ es) stop = Some (record { start = 0; stop = stop })
 
-abbrev pub owner_of : Option ℕ → Owner
-owner_of none = Past
-owner_of (some p) = At p
+-- the owner, as the code answers it
+abbrev pub owner_of : Option ℕ → told.Option ℕ
+owner_of none = None
+owner_of (some p) = Some p
 
 -- ---- the owners in order, from a record on
 
@@ -91,6 +93,6 @@ pub record EntryAt (cs ds : List (Combined ℕ)) (owner next : ℕ) : Type 0 whe
   pub within : next ≤ length (stream_of (cs ++ ds))
   pub owners : owners_from cs ds ≡ owner ∷ owners_from passed coming
 
-unfoldable pub EntryIs : (cs ds : List (Combined ℕ)) → Entry → Type 0
-EntryIs cs ds (entry.TheVariants.At owner next) = EntryAt cs ds owner next
-EntryIs cs ds entry.TheVariants.Past = owners_from cs ds ≡ []
+unfoldable pub EntryIs : (cs ds : List (Combined ℕ)) → told.Option Entry → Type 0
+EntryIs cs ds (Some e) = EntryAt cs ds e.owner e.next
+EntryIs cs ds None = owners_from cs ds ≡ []

@@ -7,8 +7,8 @@ use borrow.Author.Tests.{ne_eqb}
 use lib.ListN.{length}
 use Rattle.grammar.specs.MeaningGrammar.{kind_of, one_of}
 use Rattle.sheet.specs.MirrorField.{field_at}
-use Rattle.sheet.specs.declared.Header.{Header}
-use Rattle.sheet.specs.declared.Header.TheVariants.{Field, Passes}
+use Rattle.std.specs.Prelude.{Option, Some, None}
+use Rattle.sheet.specs.declared.Field.{Field}
 use Rattle.forest.specs.MeaningPlaces.{nests}
 use Rattle.forest.proofs.Laying.{part}
 use Rattle.schemas.specs.MeaningTree.{Tree, tree_at}
@@ -56,33 +56,33 @@ pub record Bodying (s : List ℕ) (e from : ℕ) (all : Body) : Type 0 where
 pub body_start : (s : List ℕ) (at e : ℕ) → at ≤ e → e ≤ length s → Bodying s e at (body_of (tree_at s at e))
 body_start s at e h k = record { within = h; inside = k; rest = refl }
 
-module _ (s : List ℕ) (e from : ℕ) (all : Body) (B : Bodying s e from all) (h : Header) (y : h ≡ field_at s from e) where
-  pub body_none : h ≡ Passes → BodyIs s all Other
+module _ (s : List ℕ) (e from : ℕ) (all : Body) (B : Bodying s e from all) (h : Option Field) (y : h ≡ field_at s from e) where
+  pub body_none : h ≡ None → BodyIs s all Other
   unfolding body_of
   body_none q = sym B.rest ∙ ap body_of (tree_none s from e h y q)
 
-  module _ (t a b : ℕ) (q : h ≡ Field t a b) where
-    here : {x : Body} → body_of (onto (nests t) t from (part s a b) (tree_at s a b) (tree_at s b e)) ≡ x → all ≡ x
-    here f = sym B.rest ∙ ap body_of (tree_field s from e h y t a b q) ∙ f
+  module _ (f : Field) (q : h ≡ Some f) where
+    here : {x : Body} → body_of (onto (nests f.tag) f.tag from (part s f.start f.stop) (tree_at s f.start f.stop) (tree_at s f.stop e)) ≡ x → all ≡ x
+    here z = sym B.rest ∙ ap body_of (tree_field s from e h y f q) ∙ z
 
-    pub body_simple : t ≡ 0x21 → BodyIs s all Simple
-    body_simple k = let z = simple_here t from (part s a b) (tree_at s a b) (tree_at s b e) k in (z.0, here z.1)
+    pub body_simple : f.tag ≡ 0x21 → BodyIs s all Simple
+    body_simple k = let z = simple_here f.tag from (part s f.start f.stop) (tree_at s f.start f.stop) (tree_at s f.stop e) k in (z.0, here z.1)
 
-    pub body_enumeration : t ≡ 0x22 → BodyIs s all Enumeration
-    body_enumeration k = here (enumeration_here t from (part s a b) (tree_at s a b) (tree_at s b e) k)
+    pub body_enumeration : f.tag ≡ 0x22 → BodyIs s all Enumeration
+    body_enumeration k = here (enumeration_here f.tag from (part s f.start f.stop) (tree_at s f.start f.stop) (tree_at s f.stop e) k)
 
-    pub body_named : t ≡ 0x23 → BodyIs s all (Named a b)
+    pub body_named : f.tag ≡ 0x23 → BodyIs s all (Named (record { start = f.start; stop = f.stop }))
     unfolding name_within
     body_named k = (
-      here (named_here t from (part s a b) (tree_at s a b) (tree_at s b e) k) ∙ ap (λ (n : ℕ). named (record { at = n; bytes = part s a b })) (sym (field_start s from e h y t a b q)),
-      field_order s from e h y t a b q,
-      field_there s from e h y t a b q B.inside,
+      here (named_here f.tag from (part s f.start f.stop) (tree_at s f.start f.stop) (tree_at s f.stop e) k) ∙ ap (λ (n : ℕ). named (record { at = n; bytes = part s f.start f.stop })) (sym (field_start s from e h y f q)),
+      field_order s from e h y f q,
+      field_there s from e h y f q B.inside,
     )
 
-    pub body_other : t ≡ 0x24 → BodyIs s all Other
-    body_other k = here (other_here t from (part s a b) (tree_at s a b) (tree_at s b e) k)
+    pub body_other : f.tag ≡ 0x24 → BodyIs s all Other
+    body_other k = here (other_here f.tag from (part s f.start f.stop) (tree_at s f.start f.stop) (tree_at s f.stop e) k)
 
-    pub body_on : (t ≡ 0x21 → ⊥) → (t ≡ 0x22 → ⊥) → (t ≡ 0x23 → ⊥) → (t ≡ 0x24 → ⊥) → Bodying s e b all
-    body_on u v w x = record { within = field_in s from e h y t a b q; inside = B.inside; rest = sym (here (none_here t from (part s a b) (tree_at s a b) (tree_at s b e) u v w x)) }
+    pub body_on : (f.tag ≡ 0x21 → ⊥) → (f.tag ≡ 0x22 → ⊥) → (f.tag ≡ 0x23 → ⊥) → (f.tag ≡ 0x24 → ⊥) → Bodying s e f.stop all
+    body_on u v w x = record { within = field_in s from e h y f q; inside = B.inside; rest = sym (here (none_here f.tag from (part s f.start f.stop) (tree_at s f.start f.stop) (tree_at s f.stop e) u v w x)) }
 
 pub ruleset bodying = (body_start, body_none, body_simple, body_enumeration, body_named, body_other, body_on)

@@ -9,8 +9,8 @@ use borrow.Author.Tests.{eqb-true, eqb-false}
 use lib.Dec.{eqb}
 use lib.ListN.{length, length-append}
 use Rattle.sheet.specs.MirrorField.{field_at}
-use Rattle.sheet.specs.declared.Header.{Header}
-use Rattle.sheet.specs.declared.Header.TheVariants.{Field, Passes}
+use Rattle.std.specs.Prelude.{Option, Some, None, Result, Ok, Err}
+use Rattle.sheet.specs.declared.Field.{Field}
 use Rattle.grammar.proofs.Choosing.{clash}
 use Rattle.schemas.specs.MeaningTree.{tree_at, tree_of}
 use Rattle.schemas.specs.MeaningSchemas.{schema_of, schemas_of}
@@ -18,7 +18,6 @@ use Rattle.lookup.proofs.Fields.{field_in, field_on, field_order, field_start}
 use Rattle.declarations.specs.MeaningNamespace.{schemas_in, declared_by, numbered, entries_from, all_of, declarations}
 use Rattle.standing.specs.MirrorDeclared.{StandsAt}
 use Rattle.standing.specs.declared.Declared.{Declared}
-use Rattle.standing.specs.declared.Declared.TheVariants.{At, Past}
 use Rattle.declarations.proofs.Picking.{nth_past}
 use Rattle.declarations.proofs.Numbering.{length_numbered}
 use Rattle.declarations.proofs.Schemas.{size_is, size_few}
@@ -28,29 +27,29 @@ use Rattle.declarations.proofs.Walks.{no_schemas, schema_here, no_schema_here}
 abbrev Few : List ℕ → ℕ → ℕ → Type 0
 Few s from e = (n : ℕ) → length (all_of (entries_from n (schemas_of (tree_at s from e)))) ≤ e - from
 
-step : (s : List ℕ) (from e : ℕ) (h : Header) → h ≡ field_at s from e → ((b : ℕ) → from < b → b ≤ e → Few s b e) → Few s from e
+step : (s : List ℕ) (from e : ℕ) (h : Option Field) → h ≡ field_at s from e → ((b : ℕ) → from < b → b ≤ e → Few s b e) → Few s from e
 unfolding all_of entries_from
-step s from e Passes y go n = rw (no_schemas s from e Passes y refl) (omega arith)
-step s from e (Field t a b) y go n = by (eqb t 1) refl
+step s from e None y go n = rw (no_schemas s from e None y refl) (omega arith)
+step s from e (Some f) y go n = by (eqb f.tag 1) refl
   where
-    by : (c : Bool) → eqb t 1 ≡ c → length (all_of (entries_from n (schemas_of (tree_at s from e)))) ≤ e - from
+    by : (c : Bool) → eqb f.tag 1 ≡ c → length (all_of (entries_from n (schemas_of (tree_at s from e)))) ≤ e - from
     by false k =
-        let i = field_on s from e (Field t a b) y t a b refl in
-        let j = field_in s from e (Field t a b) y t a b refl in
-        let g = go b i j n in
-        rw (no_schema_here s from e (Field t a b) y t a b refl (eqb-false t 1 k)) (omega arith)
+        let i = field_on s from e (Some f) y f refl in
+        let j = field_in s from e (Some f) y f refl in
+        let g = go f.stop i j n in
+        rw (no_schema_here s from e (Some f) y f refl (eqb-false f.tag 1 k)) (omega arith)
     by true k =
-        let x = schema_of from (tree_at s a b) in
+        let x = schema_of from (tree_at s f.start f.stop) in
         let m = n + length (declared_by x) in
-        let on = field_on s from e (Field t a b) y t a b refl in
-        let j = field_in s from e (Field t a b) y t a b refl in
-        let g = go b on j m in
-        let i = size_few s a b in
-        let z = size_is from (tree_at s a b) in
+        let on = field_on s from e (Some f) y f refl in
+        let j = field_in s from e (Some f) y f refl in
+        let g = go f.stop on j m in
+        let i = size_few s f.start f.stop in
+        let z = size_is from (tree_at s f.start f.stop) in
         let l = length_numbered x n (declared_by x) in
-        let o = field_order s from e (Field t a b) y t a b refl in
-        let f = field_start s from e (Field t a b) y t a b refl in
-        rw (schema_here s from e (Field t a b) y t a b refl (eqb-true t 1 k)) (rw (length-append (numbered x n (declared_by x)) (all_of (entries_from m (schemas_of (tree_at s b e))))) (omega arith))
+        let o = field_order s from e (Some f) y f refl in
+        let st = field_start s from e (Some f) y f refl in
+        rw (schema_here s from e (Some f) y f refl (eqb-true f.tag 1 k)) (rw (length-append (numbered x n (declared_by x)) (all_of (entries_from m (schemas_of (tree_at s f.stop e))))) (omega arith))
 
 few_by : (k : ℕ) (s : List ℕ) (from e : ℕ) → e - from < k → Few s from e
 few_by zero s from e h = absurd (not-suc-le-zero h)
@@ -62,14 +61,14 @@ few s = let z = few_by (suc (length s)) s 0 (length s) (omega arith) 0 in omega 
 
 -- ---- `count_all`
 
-module _ (s : List ℕ) (o : Declared) (w : StandsAt s (declarations (schemas_in s)) (length s) o) where
-  pub not_there : (x y t a b : ℕ) → o ≡ At x y t a b → length s ≡ length (declarations (schemas_in s))
-  not_there x y t a b e =
+module _ (s : List ℕ) (o : Result Declared ℕ) (w : StandsAt s (declarations (schemas_in s)) (length s) o) where
+  pub not_there : (d : Declared) → o ≡ Ok d → length s ≡ length (declarations (schemas_in s))
+  not_there d e =
       let z = (subst (StandsAt s (declarations (schemas_in s)) (length s)) e w).there in
       let n = nth_past (declarations (schemas_in s)) (length s) (few s) in
       clash (cc)
 
-  module _ (m : ℕ) (e : o ≡ Past m) where
+  module _ (m : ℕ) (e : o ≡ Err m) where
     fewer : length s ≡ length (declarations (schemas_in s)) + m
     fewer = (subst (StandsAt s (declarations (schemas_in s)) (length s)) e w).1
 

@@ -9,10 +9,12 @@ use Rattle.refusal.specs.declared.Refusal.{Refusal}
 use Rattle.grammar.specs.MeaningReading.{Reading}
 use Rattle.schemas.specs.MeaningSchemas.{Schema}
 use Rattle.named_types.specs.MirrorTypes.{stops, onto, turn_at, turned, walked_by}
-use Rattle.named_types.specs.MirrorCode.{told_turn, told_walked}
+use Rattle.std.specs.Prelude.{Result, Ok, Err}
+use Rattle.refusal.specs.Told.{told, number_of}
+use Rattle.refusal.specs.declared.Reason.TheVariants.{NamedThroughItself}
+use Rattle.named_types.specs.MirrorCode.{told_turn}
 use Rattle.named_types.specs.declared.Step.{Step}
-use Rattle.named_types.specs.declared.Step.TheVariants.{Ends, Goes, Refused}
-use Rattle.named_types.specs.declared.Walked.TheVariants as walked
+use Rattle.named_types.specs.declared.Step.TheVariants.{Ends, Goes}
 
 -- what is left of the walk answers what all of it does
 pub record Turning (rd : Reading) (xs : List Schema) (at left : ℕ) (all : Answer Bool) : Type 0 where
@@ -36,22 +38,19 @@ module _ (rd : Reading) (xs : List Schema) (at : ℕ) where
   unfolding walked_by turned
   next_turn n k m z e = rw (z, e) refl
 
-module _ (rd : Reading) (xs : List Schema) (at left : ℕ) (all : Answer Bool) (T : Turning rd xs at left all) (o : Step) (w : told_turn o ≡ turn_at rd xs at) where
-  pub turned_ends : (b : Bool) → o ≡ Ends b → told_walked (walked.Ends b) ≡ all
-  unfolding told_turn told_walked turned
-  turned_ends b e = let z : turn_at rd xs at ≡ done (stops b) = sym w ∙ ap told_turn e in sym ((one_turn rd xs at (left - 1)).1 ∙ rw z refl) ∙ T.rest
+module _ (rd : Reading) (xs : List Schema) (at left : ℕ) (all : Answer Bool) (T : Turning rd xs at left all) (o : Result Step Refusal) (w : told_turn o ≡ turn_at rd xs at) where
+  pub turned_ends : (z : Step) (b : Bool) → o ≡ Ok z → z ≡ Ends b → told (Ok b) ≡ all
+  unfolding turned
+  turned_ends z b e f = let t : turn_at rd xs at ≡ done (stops b) = sym w ∙ ap told_turn (e ∙ ap Ok f) in sym ((one_turn rd xs at (left - 1)).1 ∙ rw t refl) ∙ T.rest
 
-  pub turned_refused : (why : Refusal) → o ≡ Refused why → told_walked (walked.Refused why) ≡ all
-  unfolding told_turn told_walked
-  turned_refused why e = let z : turn_at rd xs at ≡ refused why.number why.place = sym w ∙ ap told_turn e in sym ((one_turn rd xs at (left - 1)).1 ∙ rw z refl) ∙ T.rest
+  pub turned_refused : (why : Refusal) → o ≡ Err why → told (Err why) ≡ all
+  turned_refused why e = let z : turn_at rd xs at ≡ refused (number_of why.reason) why.place = sym w ∙ ap told_turn e in sym ((one_turn rd xs at (left - 1)).1 ∙ rw z refl) ∙ T.rest
 
-  module _ (m : ℕ) (e : o ≡ Goes m) where
+  module _ (z : Step) (m : ℕ) (e : o ≡ Ok z) (f : z ≡ Goes m) where
     goes_to : turn_at rd xs at ≡ done (onto m)
-    unfolding told_turn
-    goes_to = sym w ∙ ap told_turn e
+    goes_to = sym w ∙ ap told_turn (e ∙ ap Ok f)
 
-    pub turned_over : left ≤ 1 → (why : Refusal) → why ≡ record { number = 13; place = 0 } → told_walked (walked.Refused why) ≡ all
-    unfolding told_walked
+    pub turned_over : left ≤ 1 → (why : Refusal) → why ≡ record { reason = NamedThroughItself; place = 0 } → told (Err why) ≡ all
     turned_over h why k = rw k (sym (last_turn rd xs at (left - 1) m (omega arith) goes_to) ∙ T.rest)
 
     pub turned_on : (j : ℕ) → j < left → 1 ≤ j → Turning rd xs m (left - 1) all

@@ -1,14 +1,15 @@
 -- What the cases of the code's inner answers mean.
-use Rattle.std.specs.Prelude.{ℕ, ◌-◌, ◌≤◌, ◌≡◌, List, Bool, length, take, drop}
-use Rattle.refusal.specs.MeaningAnswer.{Answer, done}
-use Rattle.refusal.specs.Told.{told_refusal}
+use Rattle.std.specs.Prelude.{ℕ, ◌-◌, ◌≤◌, ◌≡◌, List, Result, length, take, drop}
+use Rattle.refusal.specs.MeaningAnswer.{Answer}
+use Rattle.refusal.specs.Told.{told_by}
+use Rattle.refusal.specs.declared.Refusal.{Refusal}
 use Rattle.sheet.specs.MeaningName.{Name}
 use Rattle.schemas.specs.MeaningSchemas as schemas
 use Rattle.named_types.specs.MirrorTypes.{Turn, stops, onto}
 use Rattle.named_types.specs.declared.Body.{Body}
 use Rattle.named_types.specs.declared.Body.TheVariants as body
-use Rattle.named_types.specs.declared.Step as step
-use Rattle.named_types.specs.declared.Walked as walked
+use Rattle.named_types.specs.declared.Step.{Step}
+use Rattle.named_types.specs.declared.Step.TheVariants.{Ends, Goes}
 
 -- the name that stands between two places
 unfoldable pub name_within : List ℕ → (start stop : ℕ) → Name
@@ -18,14 +19,12 @@ name_within s a b = record { at = a; bytes = take (b - a) (drop a s) }
 abbrev pub BodyIs : List ℕ → schemas.Body → Body → Type 0
 BodyIs s x body.Simple = (k : ℕ) × (x ≡ schemas.Body.simple k)
 BodyIs s x body.Enumeration = x ≡ schemas.Body.enumeration
-BodyIs s x (body.Named a b) = (x ≡ schemas.Body.named (name_within s a b)) × (a ≤ b) × (b ≤ length s)
+BodyIs s x (body.Named at) = (x ≡ schemas.Body.named (name_within s at.start at.stop)) × (at.start ≤ at.stop) × (at.stop ≤ length s)
 BodyIs s x body.Other = x ≡ schemas.Body.other
 
-unfoldable pub told_turn : step.Step → Answer Turn
-told_turn (step.TheVariants.Ends b) = done (stops b)
-told_turn (step.TheVariants.Goes n) = done (onto n)
-told_turn (step.TheVariants.Refused why) = told_refusal why
+abbrev pub turn_told : Step → Turn
+turn_told (Ends b) = stops b
+turn_told (Goes n) = onto n
 
-unfoldable pub told_walked : walked.Walked → Answer Bool
-told_walked (walked.TheVariants.Ends b) = done b
-told_walked (walked.TheVariants.Refused why) = told_refusal why
+abbrev pub told_turn : Result Step Refusal → Answer Turn
+told_turn = told_by turn_told

@@ -7,37 +7,36 @@ use Prim.Native.Nat.{ℕ, ◌+◌, ◌-◌, ◌≤◌}
 use native.Mathlib.Omega.{arith}
 use lib.Dec.{eqb}
 use lib.ListN.{length, take, drop, length-append}
+use Rattle.std.specs.Prelude as prelude
+use Rattle.std.specs.Prelude.{Some, None, Result, Ok, Err}
+use Rattle.std.specs.Option.{ok_or}
 use Rattle.refusal.specs.MeaningAnswer.{Answer, done, refused, mapped}
+use Rattle.refusal.specs.Told.{told_refusal, told}
+use Rattle.refusal.specs.declared.Reason.TheVariants.{Undeclared, NoDeclaration}
 use Rattle.refusal.specs.declared.Refusal.{Refusal}
 use Rattle.grammar.specs.MeaningReading.{Reading}
 use Rattle.sheet.specs.MeaningName.{Name}
 use Rattle.sheet.specs.MeaningSheet.{tag_of}
 use Rattle.grammar.proofs.Choosing.{clash}
 use Rattle.scope.specs.Told.{told_scope, told_path}
+use Rattle.scope.specs.Held.{path_in}
 use Rattle.scope.specs.MeaningScope as meaning
 use Rattle.scope.specs.MeaningScope.{Step}
 use Rattle.query.specs.MeaningQuery.{word_at, name_at, Question, resolve_query, path_query}
 use Rattle.query.specs.Claims.{Stand}
 use Rattle.query.specs.Claims.Stand.{here, then}
-use Rattle.scope.specs.Held.{path_in}
 use Rattle.scope.specs.MirrorScope.{Spans}
-use Rattle.query.specs.MirrorQuery.{asked_name_of, asked_path_of}
+use Rattle.scope.specs.declared.Path.{Path}
+use Rattle.query.specs.MirrorQuery.{asked_by}
+use Rattle.query.specs.MirrorQuery as query
 use Rattle.query.specs.declared.AskedName.{AskedName}
-use Rattle.query.specs.declared.AskedPath.{AskedPath}
-use Rattle.query.specs.declared.Verdict.{Verdict}
-use Rattle.query.specs.declared.Verdict.TheVariants as verdict
 use Rattle.query.proofs.Reaching.{Lies, NameLies, name_lies, StepLies, step_lies}
-use Rattle.query.proofs.Ordering.{AllLie, step_back, spans_of, spans_none, steps_back, steps_fit}
+use Rattle.query.proofs.Ordering.{AllLie, step_back, spans_of, steps_back, steps_fit}
 use Rattle.query.proofs.Accepting.{path_done, resolve_done}
-use Rattle.lookup.specs.declared.Sought.{Sought}
-use Rattle.lookup.specs.declared.Sought.TheVariants.{At, Past}
+use Rattle.query.proofs.Proved.{path_refuses, resolve_refuses}
 use Rattle.declarations.specs.MeaningNamespace.{schemas_in, Declaration, answered, declaration_for, get_of, resolved, resolve_of}
-use Rattle.declarations.specs.Told.{told_found}
 use Rattle.declarations.specs.MirrorNamespace.{sought_of}
-use Rattle.declarations.specs.declared.Found.TheVariants.{Number, Refused}
-use Rattle.resolving.proofs.Leading.{small_at}
 use Rattle.namespace.specs.MeaningOrder.{Answers}
-use Rattle.namespace.specs.Told.{told_verdict}
 use Rattle.namespace.specs.Promises.{PromiseResolve, PromiseGet}
 use Rattle.namespace.proofs.Clearing.{refused_first, cleared_short, cleared_asked, cleared_own}
 
@@ -79,87 +78,78 @@ path_read q (done p) e =
     let n = length-append p.scope (p.item ∷ []) in
     (l.0, omega (arith, r.2), l.1)
 
--- ---- `resolve`
+-- ---- what was read, in the paper's terms
 
-told_name : (o : Answer Question) → told_verdict (asked_name_of o).verdict ≡ mapped (λ x. tt {0}) o
-unfolding told_verdict asked_name_of
-told_name (refused n p) = refl
-told_name (done a) = refl
+-- what a query that is not malformed asks for
+read_back : {A B : Type 0} (f : A → B) (o : Answer A) (b : B) → told (asked_by f o) ≡ done b → (a : A) × (o ≡ done a) × (f a ≡ b)
+unfolding asked_by
+read_back f (refused n p) b e = clash (cc)
+read_back f (done a) b e = (a, refl, cc)
+
+-- the number that is found, or why there is none
+answer_told : (m : Option Declaration) (why : Refusal) (n place : ℕ) → told_refusal {A = ℕ} why ≡ refused n place → told (ok_or (sought_of m) why) ≡ mapped (λ (d : Declaration). d.number) (answered n place m)
+unfolding sought_of answered
+answer_told none why n place e = e
+answer_told (some d) why n place e = refl
+
+-- ---- `resolve`
 
 -- the question back from its struct
 question : List ℕ → AskedName → Question
 question q a = record { scope = told_scope q a.scope; word = record { at = a.start; bytes = take (a.stop - a.start) (drop a.start q) } }
 
-name_back : (q : List ℕ) (o : Answer Question) (a : Question) → o ≡ done a → NameRead q o → o ≡ done (question q (asked_name_of o))
-unfolding asked_name_of question
-name_back q (refused n p) a e l = clash (cc)
-name_back q (done b) a e l =
-    let n : b.word.at + length b.word.bytes - b.word.at ≡ length b.word.bytes = omega arith in
-    rw (steps_back q b.scope l.0 l.1, n, l.2.there) refl
+question_back : (q : List ℕ) (a : Question) → NameRead q (done a) → question q (query.name_in a) ≡ a
+unfolding query.name_in question
+question_back q a l =
+    let n : a.word.at + length a.word.bytes - a.word.at ≡ length a.word.bytes = omega arith in
+    rw (steps_back q a.scope l.0 l.1, n, l.2.there) refl
 
-name_spans : (q : List ℕ) (o : Answer Question) → NameRead q o → ((asked_name_of o).start ≤ (asked_name_of o).stop) × ((asked_name_of o).stop ≤ length q) × Spans q (asked_name_of o).scope.one
-unfolding asked_name_of
-name_spans q (refused n p) l = (omega arith, omega arith, spans_none q)
-name_spans q (done b) l = (omega arith, l.2.within, (steps_fit q b.scope l.0 l.1).first)
+name_told : (q : List ℕ) (o : Answer Question) → resolve_query q ≡ o → o ≡ mapped (question q) (told (asked_by query.name_in o))
+unfolding asked_by
+name_told q (refused n p) e = let z : n ≡ 15 = ((resolve_refuses q n p).0 e).0 in rw z refl
+name_told q (done a) e = ap done (sym (question_back q a (name_read q (done a) e)))
 
-told_found_law : (place : ℕ) (v : Sought) (m : Option Declaration) → v ≡ sought_of m → (n : ℕ) → v ≡ At n → (number : ℕ) → done n ≡ mapped (λ (d : Declaration). d.number) (answered number place m)
-unfolding sought_of answered
-told_found_law place v none e n g number = let z : Past 0 ≡ At n = sym e ∙ g in clash (cc)
-told_found_law place v (some d) e n g number = let z : At d.number ≡ At n = sym e ∙ g in let y : d.number ≡ n = cc in rw y refl
+name_spans : (q : List ℕ) (a : Question) → NameRead q (done a) → ((query.name_in a).start ≤ (query.name_in a).stop) × ((query.name_in a).stop ≤ length q) × Spans q (query.name_in a).scope.one
+unfolding query.name_in
+name_spans q a l = (omega arith, l.2.within, (steps_fit q a.scope l.0 l.1).first)
 
-told_lost : (place : ℕ) (v : Sought) (m : Option Declaration) → v ≡ sought_of m → (n : ℕ) → v ≡ Past n → (number : ℕ) → refused number place ≡ mapped (λ (d : Declaration). d.number) (answered number place m)
-unfolding sought_of answered
-told_lost place v none e n g number = refl
-told_lost place v (some d) e n g number = let z : At d.number ≡ Past n = sym e ∙ g in clash (cc)
+module _ (q : List ℕ) (asked : Result AskedName Refusal) (h : asked ≡ asked_by query.name_in (resolve_query q)) (rd : Reading) (s : List ℕ) (r : Result AskedName Refusal) (c : Answers rd s true (told asked) done (told r)) where
+  asked_told : resolve_query q ≡ mapped (question q) (told asked)
+  asked_told = rw h (name_told q (resolve_query q) refl)
 
-module _ (q : List ℕ) (a : AskedName) (h : a ≡ asked_name_of (resolve_query q)) where
-  spanned : (a.start ≤ a.stop) × (a.stop ≤ length q) × Spans q a.scope.one
-  spanned = rw h (name_spans q (resolve_query q) (name_read q (resolve_query q) refl))
+  pub resolve_refused : (why : Refusal) → r ≡ Err why → (x : Result ℕ Refusal) → x ≡ Err why → PromiseResolve rd s q x
+  unfolding PromiseResolve
+  resolve_refused why e x f = rw f (refused_first rd s true (told asked) (told r) c (resolve_query q) (question q) asked_told (resolve_of rd (schemas_in s)) _ why.place (ap told e))
 
-  pub name_order : a.start ≤ a.stop
-  name_order = spanned.0
+  module _ (a : AskedName) (e : r ≡ Ok a) where
+    pub resolve_short : length s ≤ 65535
+    resolve_short = cleared_short rd s true (told asked) (told r) c a (ap told e)
 
-  pub name_in : a.stop ≤ length q
-  name_in = spanned.1
+    spanned : (a.start ≤ a.stop) × (a.stop ≤ length q) × Spans q a.scope.one
+    spanned =
+        let z = read_back query.name_in (resolve_query q) a (ap told (sym h) ∙ cleared_asked rd s true (told asked) (told r) c a (ap told e)) in
+        subst (λ (b : AskedName). (b.start ≤ b.stop) × (b.stop ≤ length q) × Spans q b.scope.one) z.2 (name_spans q z.0 (name_read q (done z.0) z.1))
 
-  pub name_scope : Spans q a.scope.one
-  name_scope = spanned.2
+    pub name_order : a.start ≤ a.stop
+    name_order = spanned.0
 
-  telling : told_verdict a.verdict ≡ mapped (λ x. tt {0}) (resolve_query q)
-  telling = rw h (told_name (resolve_query q))
+    pub name_in : a.stop ≤ length q
+    name_in = spanned.1
 
-  module _ (rd : Reading) (s : List ℕ) (r : Verdict) (c : Answers rd s true (told_verdict a.verdict) (λ u. done tt) (told_verdict r)) where
-    pub resolve_refused : (why : Refusal) → r ≡ verdict.Refused why → PromiseResolve rd s q (Refused why)
-    unfolding PromiseResolve told_found
-    resolve_refused why e = refused_first rd s true a.verdict r c (resolve_query q) telling (resolve_of rd (schemas_in s)) why e
+    pub name_scope : Spans q a.scope.one
+    name_scope = spanned.2
 
-    module _ (e : r ≡ verdict.Done) where
-      pub resolve_short : length s ≤ 65535
-      resolve_short = cleared_short rd s true a.verdict r c (resolve_query q) telling e
+    abbrev meant : Option Declaration
+    meant = resolved rd (schemas_in s) (told_scope q a.scope) (take (a.stop - a.start) (drop a.start q))
 
-      the_question : resolve_query q ≡ done (question q a)
-      the_question = let z = cleared_asked rd s true a.verdict r c (resolve_query q) telling e in rw h (name_back q (resolve_query q) z.0 z.1 (name_read q (resolve_query q) refl))
+    pub resolve_ends : (v : prelude.Option ℕ) → v ≡ sought_of meant → (why : Refusal) → why ≡ record { reason = Undeclared; place = a.start } → (x : Result ℕ Refusal) → x ≡ ok_or v why → PromiseResolve rd s q x
+    unfolding PromiseResolve resolve_of question
+    resolve_ends v k why y x z =
+        cleared_own rd s true (told asked) (told r) c a (ap told e) (resolve_query q) (question q) asked_told (resolve_of rd (schemas_in s)) (told x) (rw (z, k) (answer_told meant why 6 a.start (ap told_refusal y)))
 
-      own : (b : Answer ℕ) → b ≡ resolve_of rd (schemas_in s) (question q a) → Answers rd s true (resolve_query q) (resolve_of rd (schemas_in s)) b
-      own b f = cleared_own rd s true a.verdict r c (resolve_query q) telling e (resolve_of rd (schemas_in s)) (question q a) the_question b f
-
-      module _ (v : Sought) (vv : v ≡ sought_of (resolved rd (schemas_in s) (told_scope q a.scope) (take (a.stop - a.start) (drop a.start q)))) (n : ℕ) where
-        pub resolve_number : v ≡ At n → PromiseResolve rd s q (Number n)
-        unfolding PromiseResolve told_found resolve_of question
-        resolve_number g = own (done n) (told_found_law a.start v (resolved rd (schemas_in s) (told_scope q a.scope) (take (a.stop - a.start) (drop a.start q))) vv n g 6)
-
-        pub resolve_none : v ≡ Past n → (why : Refusal) → why ≡ record { number = 6; place = a.start } → PromiseResolve rd s q (Refused why)
-        unfolding PromiseResolve told_found resolve_of question
-        resolve_none g why k = rw k (own (refused 6 a.start) (told_lost a.start v (resolved rd (schemas_in s) (told_scope q a.scope) (take (a.stop - a.start) (drop a.start q))) vv n g 6))
-
-pub ruleset resolving = (name_order, name_in, name_scope, resolve_refused, resolve_short, resolve_number, resolve_none, small_at)
+pub ruleset resolving = (resolve_refused, resolve_short, name_order, name_in, name_scope, resolve_ends)
 
 -- ---- `get`
-
-pub told_path_law : (o : Answer meaning.Path) → told_verdict (asked_path_of o).verdict ≡ mapped (λ x. tt {0}) o
-unfolding told_verdict asked_path_of
-told_path_law (refused n p) = refl
-told_path_law (done a) = refl
 
 -- a path that was read from a query, back from its struct
 pub path_back : (q : List ℕ) (p : meaning.Path) → path_query q ≡ done p → told_path q (path_in p) ≡ p
@@ -171,48 +161,39 @@ path_spans : (q : List ℕ) (p : meaning.Path) → path_query q ≡ done p → S
 unfolding path_in
 path_spans q p e = let l = path_read q (done p) e in ((steps_fit q p.scope l.0 l.1).first, spans_of q p.item l.2)
 
-asked_spans : (q : List ℕ) (o : Answer meaning.Path) → path_query q ≡ o → Spans q (asked_path_of o).path.scope.one × Spans q (asked_path_of o).path.item
-unfolding asked_path_of
-asked_spans q (refused n p) e = (spans_none q, spans_none q)
-asked_spans q (done p) e = path_spans q p e
+path_told_by : (q : List ℕ) (o : Answer meaning.Path) → path_query q ≡ o → o ≡ mapped (told_path q) (told (asked_by path_in o))
+unfolding asked_by
+path_told_by q (refused n p) e = let z : n ≡ 15 = ((path_refuses q n p).0 e).0 in rw z refl
+path_told_by q (done p) e = ap done (sym (path_back q p e))
 
-asked_back : (q : List ℕ) (o : Answer meaning.Path) (p : meaning.Path) → o ≡ done p → path_query q ≡ o → o ≡ done (told_path q (asked_path_of o).path)
-unfolding asked_path_of
-asked_back q (refused n m) p e f = clash (cc)
-asked_back q (done b) p e f = ap done (sym (path_back q b f))
+module _ (q : List ℕ) (asked : Result Path Refusal) (h : asked ≡ asked_by path_in (path_query q)) where
+  -- the question in the paper's terms
+  pub path_told : path_query q ≡ mapped (told_path q) (told asked)
+  path_told = rw h (path_told_by q (path_query q) refl)
 
-module _ (q : List ℕ) (a : AskedPath) (h : a ≡ asked_path_of (path_query q)) where
-  pub path_scope : Spans q a.path.scope.one
-  path_scope = rw h (asked_spans q (path_query q) refl).0
+  pub path_stands : (p : Path) → told asked ≡ done p → Spans q p.scope.one × Spans q p.item
+  path_stands p e =
+      let z = read_back path_in (path_query q) p (ap told (sym h) ∙ e) in
+      subst (λ (b : Path). Spans q b.scope.one × Spans q b.item) z.2 (path_spans q z.0 z.1)
 
-  pub path_item : Spans q a.path.item
-  path_item = rw h (asked_spans q (path_query q) refl).1
+  module _ (rd : Reading) (s : List ℕ) (r : Result Path Refusal) (c : Answers rd s true (told asked) done (told r)) where
+    pub get_refused : (why : Refusal) → r ≡ Err why → (x : Result ℕ Refusal) → x ≡ Err why → PromiseGet rd s q x
+    unfolding PromiseGet
+    get_refused why e x f = rw f (refused_first rd s true (told asked) (told r) c (path_query q) (told_path q) path_told (get_of rd (schemas_in s)) _ why.place (ap told e))
 
-  telling_path : told_verdict a.verdict ≡ mapped (λ x. tt {0}) (path_query q)
-  telling_path = rw h (told_path_law (path_query q))
-
-  module _ (rd : Reading) (s : List ℕ) (r : Verdict) (c : Answers rd s true (told_verdict a.verdict) (λ u. done tt) (told_verdict r)) where
-    pub get_refused : (why : Refusal) → r ≡ verdict.Refused why → PromiseGet rd s q (Refused why)
-    unfolding PromiseGet told_found
-    get_refused why e = refused_first rd s true a.verdict r c (path_query q) telling_path (get_of rd (schemas_in s)) why e
-
-    module _ (e : r ≡ verdict.Done) where
+    module _ (p : Path) (e : r ≡ Ok p) where
       pub get_short : length s ≤ 65535
-      get_short = cleared_short rd s true a.verdict r c (path_query q) telling_path e
+      get_short = cleared_short rd s true (told asked) (told r) c p (ap told e)
 
-      the_path : path_query q ≡ done (told_path q a.path)
-      the_path = let z = cleared_asked rd s true a.verdict r c (path_query q) telling_path e in rw h (asked_back q (path_query q) z.0 z.1 refl)
+      pub path_scope : Spans q p.scope.one
+      path_scope = (path_stands p (cleared_asked rd s true (told asked) (told r) c p (ap told e))).0
 
-      own_get : (b : Answer ℕ) → b ≡ get_of rd (schemas_in s) (told_path q a.path) → Answers rd s true (path_query q) (get_of rd (schemas_in s)) b
-      own_get b f = cleared_own rd s true a.verdict r c (path_query q) telling_path e (get_of rd (schemas_in s)) (told_path q a.path) the_path b f
+      pub path_item : Spans q p.item
+      path_item = (path_stands p (cleared_asked rd s true (told asked) (told r) c p (ap told e))).1
 
-      module _ (v : Sought) (vv : v ≡ sought_of (declaration_for rd (schemas_in s) (told_path q a.path))) (n : ℕ) where
-        pub get_number : v ≡ At n → PromiseGet rd s q (Number n)
-        unfolding PromiseGet told_found get_of
-        get_number g = own_get (done n) (told_found_law 0 v (declaration_for rd (schemas_in s) (told_path q a.path)) vv n g 7)
+      pub get_ends : (v : prelude.Option ℕ) → v ≡ sought_of (declaration_for rd (schemas_in s) (told_path q p)) → (why : Refusal) → why ≡ record { reason = NoDeclaration; place = 0 } → (x : Result ℕ Refusal) → x ≡ ok_or v why → PromiseGet rd s q x
+      unfolding PromiseGet get_of
+      get_ends v k why y x z =
+          cleared_own rd s true (told asked) (told r) c p (ap told e) (path_query q) (told_path q) path_told (get_of rd (schemas_in s)) (told x) (rw (z, k) (answer_told (declaration_for rd (schemas_in s) (told_path q p)) why 7 0 (ap told_refusal y)))
 
-        pub get_none : v ≡ Past n → (why : Refusal) → why ≡ record { number = 7; place = 0 } → PromiseGet rd s q (Refused why)
-        unfolding PromiseGet told_found get_of
-        get_none g why k = rw k (own_get (refused 7 0) (told_lost 0 v (declaration_for rd (schemas_in s) (told_path q a.path)) vv n g 7))
-
-pub ruleset getting_paths = (path_scope, path_item, get_refused, get_short, get_number, get_none, small_at)
+pub ruleset getting_paths = (path_scope, path_item, get_refused, get_short, get_ends)

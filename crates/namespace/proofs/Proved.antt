@@ -1,38 +1,35 @@
 -- The claims of specs/Claims.antt.
-use mathlib.Core.Path.{◌≡◌, refl, sym, ap, ◌∙◌}
+use mathlib.Core.Path.{◌≡◌, sym, ap, ◌∙◌}
 use mathlib.Core.List.{List}
 use mathlib.Core.Bool.{true}
 use Prim.Native.Nat.{ℕ}
+use Rattle.std.specs.Prelude.{Result, Ok, Err}
 use Rattle.refusal.specs.MeaningAnswer.{Answer, done, mapped}
+use Rattle.refusal.specs.Told.{told}
+use Rattle.refusal.specs.declared.Refusal.{Refusal}
 use Rattle.grammar.specs.MeaningReading.{Reading}
 use Rattle.grammar.proofs.Choosing.{clash}
 use Rattle.scope.specs.MeaningScope.{Path}
 use Rattle.query.specs.MeaningQuery.{resolve_query, path_query}
-use Rattle.query.specs.declared.Verdict.{Verdict}
-use Rattle.query.specs.declared.Verdict.TheVariants as verdict
 use Rattle.declarations.specs.MeaningNamespace.{schemas_in, get_of, resolve_of, path_at}
-use Rattle.declarations.specs.Told.{told_found}
 use Rattle.refusal.proofs.Same.{same_refusal}
-use Rattle.declarations.proofs.Proved.{found_once}
-use Rattle.namespace.specs.Told.{told_verdict}
 use Rattle.namespace.specs.Promises.{PromiseResolve, PromiseGet, Asked, part_of, PromisePart, PromisePath}
 use Rattle.namespace.specs.Claims.{ResolveOnce, GetOnce, PartOnce, PathOnce}
 use Rattle.namespace.proofs.Clearing.{answers_once}
 
-verdict_once : (a b : Verdict) → told_verdict a ≡ told_verdict b → a ≡ b
-unfolding told_verdict
-verdict_once verdict.Done verdict.Done e = refl
-verdict_once verdict.Done (verdict.Refused r) e = clash (cc)
-verdict_once (verdict.Refused r) verdict.Done e = clash (cc)
-verdict_once (verdict.Refused r) (verdict.Refused q) e = ap verdict.Refused (same_refusal r q (cc) (cc))
+pub told_once : {A : Type 0} (a b : Result A Refusal) → told a ≡ told b → a ≡ b
+told_once (Ok x) (Ok y) e = cc
+told_once (Ok x) (Err q) e = clash (cc)
+told_once (Err r) (Ok y) e = clash (cc)
+told_once (Err r) (Err q) e = ap Err (same_refusal r q (cc) (cc))
 
 pub resolve_once : ResolveOnce
 unfolding PromiseResolve
-resolve_once rd s q r r' x y = found_once r r' (answers_once rd s true (resolve_query q) (resolve_of rd (schemas_in s)) (told_found r) (told_found r') x y)
+resolve_once rd s q r r' x y = told_once r r' (answers_once rd s true (resolve_query q) (resolve_of rd (schemas_in s)) (told r) (told r') x y)
 
 pub get_once : GetOnce
 unfolding PromiseGet
-get_once rd s q r r' x y = found_once r r' (answers_once rd s true (path_query q) (get_of rd (schemas_in s)) (told_found r) (told_found r') x y)
+get_once rd s q r r' x y = told_once r r' (answers_once rd s true (path_query q) (get_of rd (schemas_in s)) (told r) (told r') x y)
 
 asked_once : (rd : Reading) (s : List ℕ) (i : ℕ) (o o' : Answer Path) → Asked rd s i o → Asked rd s i o' → o ≡ o'
 unfolding Asked
@@ -44,4 +41,4 @@ part_once name rd s i b b' x y = x.2 ∙ ap (part_of name) (asked_once rd s i x.
 
 pub path_once : PathOnce
 unfolding PromisePath
-path_once rd s i r r' x y = verdict_once r r' (x.2 ∙ ap (λ (o : Answer Path). mapped (λ (p : Path). tt {0}) o) (asked_once rd s i x.0 y.0 x.1 y.1) ∙ sym y.2)
+path_once rd s i r r' x y = told_once r r' (x.2 ∙ ap (λ (o : Answer Path). mapped (λ (p : Path). tt {0}) o) (asked_once rd s i x.0 y.0 x.1 y.1) ∙ sym y.2)

@@ -1,6 +1,5 @@
 -- Meanings, then promises and claims, then the mirror.
 pub mod MeaningOrder
-pub mod Told
 pub mod Promises
 pub mod Claims
 pub mod MirrorNames

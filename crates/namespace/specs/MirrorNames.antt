@@ -1,7 +1,8 @@
 -- Where a name of a declaration's path stands in the sheet.
-use Rattle.std.specs.Prelude.{ℕ, ◌≡◌, List}
+use Rattle.std.specs.Prelude.{ℕ, ◌≡◌, List, Result, Ok, Err}
 use Rattle.refusal.specs.MeaningAnswer.{done}
 use Rattle.refusal.specs.Told.{told_refusal}
+use Rattle.refusal.specs.declared.Refusal.{Refusal}
 use Rattle.grammar.specs.MeaningReading.{Reading}
 use Rattle.sheet.specs.MeaningName.{Name}
 use Rattle.scope.specs.MeaningScope.{Path}
@@ -11,8 +12,6 @@ use Rattle.lookup.specs.declared.Span.{Span}
 use Rattle.namespace.specs.Promises.{Asked}
 use Rattle.namespace.specs.declared.PathName.{PathName}
 use Rattle.namespace.specs.declared.PathName.TheVariants.{Schema, Item}
-use Rattle.namespace.specs.declared.NamePlace.{NamePlace}
-use Rattle.namespace.specs.declared.NamePlace.TheVariants.{At, Refused}
 
 unfoldable pub name_within : PathName → Path → Name
 name_within Schema p = schema_name p
@@ -26,6 +25,6 @@ pub record NameSpells (rd : Reading) (s : List ℕ) (i : ℕ) (which : PathName)
   pub lies : Lies s (name_within which path)
 
 -- or there is no such path, and why
-abbrev pub NameStands : Reading → List ℕ → ℕ → PathName → NamePlace → Type 0
-NameStands rd s i which (At v) = NameSpells rd s i which v
-NameStands rd s i which (Refused why) = Asked rd s i (told_refusal why)
+abbrev pub NameStands : Reading → List ℕ → ℕ → PathName → Result Span Refusal → Type 0
+NameStands rd s i which (Ok v) = NameSpells rd s i which v
+NameStands rd s i which (Err why) = Asked rd s i (told_refusal why)

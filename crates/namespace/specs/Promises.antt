@@ -1,24 +1,22 @@
 -- What the public functions promise.
-use Rattle.std.specs.Prelude.{ℕ, ◌≡◌, List, [], true}
+use Rattle.std.specs.Prelude.{ℕ, ◌≡◌, List, [], Result, true}
 use Rattle.refusal.specs.MeaningAnswer.{Answer, done, refused, mapped}
+use Rattle.refusal.specs.Told.{told}
+use Rattle.refusal.specs.declared.Refusal.{Refusal}
 use Rattle.grammar.specs.MeaningReading.{Reading}
 use Rattle.sheet.specs.MeaningName.{Name}
 use Rattle.scope.specs.MeaningScope.{Path}
 use Rattle.query.specs.MeaningQuery.{resolve_query, path_query}
-use Rattle.query.specs.declared.Verdict.{Verdict}
 use Rattle.declarations.specs.MeaningNamespace.{schemas_in, resolve_of, get_of, path_at}
-use Rattle.declarations.specs.Told.{told_found}
-use Rattle.declarations.specs.declared.Found.{Found}
 use Rattle.namespace.specs.MeaningOrder.{Answers}
-use Rattle.namespace.specs.Told.{told_verdict}
 
 -- `resolve`: the number of the declaration that a name means in a scope
-unfoldable pub PromiseResolve : Reading → (sheet query : List ℕ) → Found → Type 0
-PromiseResolve rd s q r = Answers rd s true (resolve_query q) (resolve_of rd (schemas_in s)) (told_found r)
+unfoldable pub PromiseResolve : Reading → (sheet query : List ℕ) → Result ℕ Refusal → Type 0
+PromiseResolve rd s q r = Answers rd s true (resolve_query q) (resolve_of rd (schemas_in s)) (told r)
 
 -- `get`: the number of the first declaration with an equal path
-unfoldable pub PromiseGet : Reading → (sheet query : List ℕ) → Found → Type 0
-PromiseGet rd s q r = Answers rd s true (path_query q) (get_of rd (schemas_in s)) (told_found r)
+unfoldable pub PromiseGet : Reading → (sheet query : List ℕ) → Result ℕ Refusal → Type 0
+PromiseGet rd s q r = Answers rd s true (path_query q) (get_of rd (schemas_in s)) (told r)
 
 -- ---- `as_path`: "schema name and item name as the parts of the sheet that hold them, by a question each; refused, the part is empty and a third question tells why"
 
@@ -35,5 +33,5 @@ unfoldable pub PromisePart : (Path → Name) → Reading → List ℕ → ℕ �
 PromisePart name rd s i b = (o : Answer Path) × Asked rd s i o × (b ≡ part_of name o)
 
 -- `as_path`
-unfoldable pub PromisePath : Reading → List ℕ → ℕ → Verdict → Type 0
-PromisePath rd s i r = (o : Answer Path) × Asked rd s i o × (told_verdict r ≡ mapped (λ p. tt) o)
+unfoldable pub PromisePath : Reading → List ℕ → ℕ → Result (Unit {0}) Refusal → Type 0
+PromisePath rd s i r = (o : Answer Path) × Asked rd s i o × (told r ≡ mapped (λ p. tt) o)

@@ -1,17 +1,16 @@
 -- The claims, proved.
 use mathlib.Core.Path.{◌≡◌, refl, sym, ap, ◌∙◌}
 use mathlib.Core.List.{List, [], ◌∷◌, ◌++◌}
-use Prim.Native.Nat.{ℕ, ◌+◌, ◌/◌, ◌%◌}
+use Prim.Native.Nat.{ℕ, ◌+◌}
 use native.Mathlib.Omega.{arith}
-use native.Mathlib.Nat.{div-add-mod'}
 use lib.ListN.{length, take, drop, get_or, length-append}
 use lib.Seq.{take_at, drop_at, take-append_seam, drop-append_seam}
 use Rattle.expression.specs.MeaningExpression.{Expr, reference, andor, «and», oneof, Terms, end, ◌then◌}
 use Rattle.nodes.specs.MeaningBytes.{field_of, bytes_of, bytes_of_all}
 use Rattle.nodes.specs.MirrorBuilding.{Sort, an_expression, some_terms, Reads}
 use Rattle.nodes.specs.Claims.{Example, OneExpression, OneTerms, OneOutcome, OneReadNode, OneReadTerms}
-use Rattle.nodes.specs.declared.Built.{Built}
-use Rattle.nodes.specs.declared.Built.TheVariants.{Used, Missing}
+use Rattle.std.specs.Prelude.{Option, Some, None}
+use Rattle.nodes.proofs.Fields.{as_long}
 use Rattle.nodes.proofs.Saying.{Kinded, made, an_andor, an_and, a_oneof, View, a_name, a_kind, view, name_bytes, framing, end_bytes, then_bytes}
 
 pub example : Example
@@ -19,13 +18,6 @@ unfolding bytes_of
 example = refl
 
 -- ---- bytes say one expression at most
--- fields that begin the same bytes are as long
-as_long : (a b : ℕ) (v w k l : List ℕ) → field_of a v ++ k ≡ field_of b w ++ l → length v ≡ length w
-as_long a b v w k l e =
-    let h : length v / 256 ≡ length w / 256 = ap (λ (q : List ℕ). get_or q 1 0) e in
-    let m : length v % 256 ≡ length w % 256 = ap (λ (q : List ℕ). get_or q 2 0) e in
-    omega (arith, h, m, div-add-mod' (length v) 256, div-add-mod' (length w) 256)
-
 split : (d e : Expr ℕ) (k l : List ℕ) → bytes_of d ++ k ≡ bytes_of e ++ l → (bytes_of d ≡ bytes_of e) × (k ≡ l)
 split d e k l same =
     let f = framing d in
@@ -78,21 +70,21 @@ mutual
 
 -- ---- reading has one outcome
 module _ (S : Sort) (once : (x y : S.Thing) → S.bytes x ≡ S.bytes y → x ≡ y) where
-  used_too : (bytes before a b : List ℕ) (calls used : ℕ) (r s : Built) → length a ≡ length before → Reads S bytes calls used before a r → Reads S bytes calls used before b s
-      → (n : ℕ) → r ≡ Used n → s ≡ Used n
+  used_too : (bytes before a b : List ℕ) (calls used : ℕ) (r s : Option ℕ) → length a ≡ length before → Reads S bytes calls used before a r → Reads S bytes calls used before b s
+      → (n : ℕ) → r ≡ Some n → s ≡ Some n
   used_too bytes before a b calls used r s long f g n given =
       let w = f.only n given in
-      g.every w.thing w.says w.deep (omega (arith, w.inside, w.ends)) ∙ ap Used (sym w.ends)
+      g.every w.thing w.says w.deep (omega (arith, w.inside, w.ends)) ∙ ap Some (sym w.ends)
 
   one_outcome : OneOutcome S
   one_outcome bytes before a b calls used r s i j f g = (answers r s refl refl, numbers)
     where
-      answers : (x y : Built) → r ≡ x → s ≡ y → r ≡ s
-      answers (Used n) y p q = p ∙ sym (used_too bytes before a b calls used r s i f g n p)
-      answers Missing (Used n) p q = used_too bytes before b a calls used s r j g f n q ∙ sym q
-      answers Missing Missing p q = p ∙ sym q
+      answers : (x y : Option ℕ) → r ≡ x → s ≡ y → r ≡ s
+      answers (Some n) y p q = p ∙ sym (used_too bytes before a b calls used r s i f g n p)
+      answers None (Some n) p q = used_too bytes before b a calls used s r j g f n q ∙ sym q
+      answers None None p q = p ∙ sym q
 
-      numbers : (n : ℕ) → r ≡ Used n → take n a ≡ take n b
+      numbers : (n : ℕ) → r ≡ Some n → take n a ≡ take n b
       numbers n given =
           let v = f.only n given in
           let w = g.only n (used_too bytes before a b calls used r s i f g n given) in

@@ -1,10 +1,8 @@
 -- What is proved of expressions as bytes, and of reading them.
-use Rattle.std.specs.Prelude.{◌≡◌, List, [], ◌∷◌, ℕ, length, take}
+use Rattle.std.specs.Prelude.{◌≡◌, List, [], ◌∷◌, ℕ, length, take, Option, Some}
 use Rattle.expression.specs.MeaningExpression.{Expr, reference, andor, oneof, Terms, end, ◌then◌}
 use Rattle.nodes.specs.MeaningBytes.{bytes_of, bytes_of_all}
 use Rattle.nodes.specs.MirrorBuilding.{Sort, an_expression, some_terms, Reads}
-use Rattle.nodes.specs.declared.Built.{Built}
-use Rattle.nodes.specs.declared.Built.TheVariants.{Used}
 
 -- ANDOR(1,ONEOF(2))
 abbrev pub Example : Type 0
@@ -19,8 +17,8 @@ OneTerms = (t u : Terms ℕ) → bytes_of_all t ≡ bytes_of_all u → t ≡ u
 
 -- reading has one outcome: the answer, and the numbers that stand then
 abbrev pub OneOutcome : Sort → Type 0
-OneOutcome S = (bytes before a b : List ℕ) (calls used : ℕ) (r s : Built) → length a ≡ length before → length b ≡ length before
-    → Reads S bytes calls used before a r → Reads S bytes calls used before b s → (r ≡ s) × ((n : ℕ) → r ≡ Used n → take n a ≡ take n b)
+OneOutcome S = (bytes before a b : List ℕ) (calls used : ℕ) (r s : Option ℕ) → length a ≡ length before → length b ≡ length before
+    → Reads S bytes calls used before a r → Reads S bytes calls used before b s → (r ≡ s) × ((n : ℕ) → r ≡ Some n → take n a ≡ take n b)
 
 abbrev pub OneReadNode : Type 0
 OneReadNode = OneOutcome an_expression

@@ -7,10 +7,10 @@ ghost use Rattle.noting.specs.MeaningNames.{names_of};
 ghost use Rattle.noting.specs.MirrorNoted.{bytes_at, Spells, span_at, Noted};
 
 use lookup::{Span, name_of};
-use standing::{Declared, declaration};
+use standing::declaration;
 
 // Where the names of a declaration stand in the sheet.
-#[derive(Clone, Copy)]
+#[derive(Clone, Copy, Debug, Default, PartialEq, Eq)]
 pub struct NamesAt {
     pub schema: Span,
     pub item: Span,
@@ -20,22 +20,13 @@ pub struct NamesAt {
 fn names_at(sheet: &[u8], index: usize) -> NamesAt
     ensures { Spells sheet.now (names_of (schemas_in sheet.now) index).schema result.schema × Spells sheet.now (names_of (schemas_in sheet.now) index).item result.item }
 {
-    let Declared::At {
-        schema_start,
-        schema_stop,
-        tag: _,
-        start,
-        stop,
-    } = declaration(sheet, index)
-    else {
-        return NamesAt {
-            schema: Span { start: 0, stop: 0 },
-            item: Span { start: 0, stop: 0 },
-        };
+    let Ok(found) = declaration(sheet, index) else {
+        return NamesAt::default();
     };
-    let schema = name_of(sheet, schema_start, schema_stop);
-    let item = name_of(sheet, start, stop);
-    NamesAt { schema, item }
+    NamesAt {
+        schema: name_of(sheet, found.schema.start, found.schema.stop),
+        item: name_of(sheet, found.item.start, found.item.stop),
+    }
 }
 
 // The bytes that stand there.
@@ -43,9 +34,7 @@ pub fn bytes_at(sheet: &[u8], span: Span) -> &[u8]
     requires { (span.start ≤ span.stop) × (span.stop ≤ length sheet.now) }
     ensures { result.now ≡ bytes_at sheet.now span }
 {
-    let start = span.start;
-    let stop = span.stop;
-    &sheet[start..stop]
+    &sheet[span.start..span.stop]
 }
 
 // ---- The names are found once, and noted: four numbers for each declaration, for as many as there is room.
@@ -66,15 +55,11 @@ pub fn note_names(sheet: &[u8], names: &mut [u16])
     requires { length sheet.now ≤ 65535 }
     ensures { Noted sheet.now names.new }
 {
-    let room = names.len() / NOTED;
-    let mut index = 0;
-    while index < room {
-        let here = names_at(sheet, index);
-        let schema = here.schema;
-        let item = here.item;
+    // By index: of a slice that was lent out in chunks only the length is known afterwards.
+    for index in 0..names.len() / NOTED {
+        let NamesAt { schema, item } = names_at(sheet, index);
         note(names, NOTED * index, schema);
         note(names, NOTED * index + 2, item);
-        index += 1;
     }
 }
 
@@ -84,8 +69,8 @@ fn noted(names: &[u16], at: usize) -> Span
     ensures { result ≡ span_at names.now at }
 {
     Span {
-        start: names[at] as usize,
-        stop: names[at + 1] as usize,
+        start: usize::from(names[at]),
+        stop: usize::from(names[at + 1]),
     }
 }
 

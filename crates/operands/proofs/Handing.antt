@@ -12,6 +12,8 @@ use borrow.Author.Rules.{Fits-under}
 use mir.Syntax.{w64}
 use mir.Val.{Fits}
 use Rattle.refusal.specs.MeaningAnswer.{Answer, done, refused, or_else, mapped, ◌>>=◌}
+use Rattle.refusal.specs.Told.{number_of, told_refusal}
+use Rattle.refusal.specs.declared.Reason.TheVariants.{BufferTooShort}
 use Rattle.refusal.specs.declared.Refusal.{Refusal}
 use Rattle.complex_entity.specs.MeaningParts.{Part}
 use Rattle.complex_entity.specs.MeaningRows.{row_of, flat}
@@ -20,32 +22,31 @@ use Rattle.complex_entity.specs.declared.PartialComplexEntity.{PartialComplexEnt
 use Rattle.complex_entity.proofs.Names.{names_few}
 use Rattle.complex_entity.proofs.Rows.{row_long}
 use Rattle.instantiables.specs.declared.Instantiables.{Instantiables}
-use Rattle.instantiables.specs.declared.Listed.{Listed}
-use Rattle.instantiables.specs.declared.Listed.TheVariants.{Rows, Refused}
+use Rattle.std.specs.Prelude.{Result, Ok, Err}
 use Rattle.instantiables.specs.Told.{told_listed}
 use Rattle.operands.specs.MeaningResults.{fitting, written}
 use Rattle.operands.specs.MirrorResults.{Within, FrontIf, Valued, fitted, handed, Handed}
 use Rattle.operands.specs.Promises.{Answers}
 
 -- ---- a refusal leaves the buffer
-pub refused_answers : (o : Answer (List Part)) (out : List ℕ) (w : Refusal) → o ≡ refused w.number w.place → Answers o out (Refused w) out
+pub refused_answers : (o : Answer (List Part)) (out : List ℕ) (w : Refusal) → o ≡ refused (number_of w.reason) w.place → Answers o out (Err w) out
 unfolding written
 refused_answers o out w e = rw e (record { says = refl; buffer = refl })
 
 -- ---- a list, from the work array
-module _ (listed : Listed) (work out : List ℕ) where
-  pub hand_refused : (why : Refusal) → listed ≡ Refused why → Handed (told_listed listed) work out (told_listed listed) out
+module _ (listed : Result Instantiables Refusal) (work out : List ℕ) where
+  pub hand_refused : (why : Refusal) → listed ≡ Err why → Handed (told_listed listed) work out (told_listed listed) out
   unfolding fitted handed
   hand_refused why e = rw e (record { says = refl; buffer = refl })
 
-  module _ (l : Instantiables) (e : listed ≡ Rows l) where
+  module _ (l : Instantiables) (e : listed ≡ Ok l) where
     pub hand_within : Within (told_listed listed) work → 13 * l.count ≤ length work
     hand_within h = rw e at h
 
     pub hand_fits : Within (told_listed listed) work → length work * 2 < 2 ^ 63 → Fits w64 (13 * l.count)
     hand_fits h k = Fits-under w64 (13 * l.count) (2 ^ 63) (omega (arith, hand_within h)) tt
 
-    pub hand_short : (w : Refusal) → w ≡ record { number = 12; place = 0 } → length out < 13 * l.count → Handed (told_listed listed) work out (told_listed (Refused w)) out
+    pub hand_short : (w : Refusal) → w ≡ record { reason = BufferTooShort; place = 0 } → length out < 13 * l.count → Handed (told_listed listed) work out (told_refusal w) out
     unfolding fitted handed
     hand_short w d h = rw (e, d) (record { says = rw (lt-leb (13 * l.count) (length out) h) refl; buffer = refl })
 
@@ -67,7 +68,7 @@ answered (done L) work out out' t s a b c d = go (leb (13 * length L) (length ou
     go true e = (e, d ∙ rw (e, b) refl)
     go false e = (e, d ∙ rw e refl)
 
-pub hand_answers : (o : Answer (List Part)) (work out : List ℕ) (listed r : Listed) (out' : List ℕ) → Valued o work (told_listed listed)
+pub hand_answers : (o : Answer (List Part)) (work out : List ℕ) (listed r : Result Instantiables Refusal) (out' : List ℕ) → Valued o work (told_listed listed)
     → Handed (told_listed listed) work out (told_listed r) out' → Answers (o >>= fitting (length out)) out r out'
 hand_answers o work out listed r out' v h =
     let a = answered o work out out' (told_listed listed) (told_listed r) v.says v.front h.says h.buffer in
@@ -75,12 +76,12 @@ hand_answers o work out listed r out' v h =
 
 -- ---- a part by itself
 module _ (part : PartialComplexEntity) (out : List ℕ) where
-  pub part_short : (w : Refusal) → w ≡ record { number = 12; place = 0 } → length out < 13 → Answers (fitting (length out) (names_of part ∷ [])) out (Refused w) out
+  pub part_short : (w : Refusal) → w ≡ record { reason = BufferTooShort; place = 0 } → length out < 13 → Answers (fitting (length out) (names_of part ∷ [])) out (Err w) out
   unfolding fitting written
   part_short w d h = rw (lt-leb 13 (length out) h, d) (record { says = refl; buffer = refl })
 
   pub part_handed : (out' : List ℕ) → length part.names ≡ 12 → 13 ≤ length out → out' ≡ paste out 0 (row_of (names_of part)) 13
-      → Answers (fitting (length out) (names_of part ∷ [])) out (Rows (record { count = 1 })) out'
+      → Answers (fitting (length out) (names_of part ∷ [])) out (Ok (record { count = 1 })) out'
   unfolding fitting written flat flat_map
   part_handed out' l h w =
       let t : take 13 (row_of (names_of part)) ≡ row_of (names_of part) = take_all 13 (row_of (names_of part)) (omega (arith, row_long (names_of part) (names_few part l))) in

@@ -8,8 +8,7 @@ use Rattle.refusal.specs.declared.Refusal.{Refusal}
 use Rattle.refusal.proofs.Same.{same_refusal}
 use Rattle.complex_entity.specs.MeaningParts.{Part}
 use Rattle.instantiables.specs.declared.Instantiables.{Instantiables}
-use Rattle.instantiables.specs.declared.Listed.{Listed}
-use Rattle.instantiables.specs.declared.Listed.TheVariants as listed
+use Rattle.std.specs.Prelude.{Result, Ok, Err}
 use Rattle.instantiables.specs.Told.{told_listed}
 use Rattle.operands.specs.Promises.{Answers}
 use Rattle.operands.proofs.Cuts.{clash}
@@ -17,13 +16,13 @@ use Rattle.operands.proofs.Cuts.{clash}
 pub refusal_once : {A : Type 0} (a b : Refusal) → ◌≡◌ {A = Answer A} (told_refusal a) (told_refusal b) → a ≡ b
 refusal_once a b e = same_refusal a b (cc) (cc)
 
-listed_once : (r s : Listed) → told_listed r ≡ told_listed s → r ≡ s
-listed_once (listed.Rows a) (listed.Rows b) e =
+listed_once : (r s : Result Instantiables Refusal) → told_listed r ≡ told_listed s → r ≡ s
+listed_once (Ok a) (Ok b) e =
     let n : a.count ≡ b.count = cc in
-    ap (λ (l : Instantiables). listed.Rows l) (λ i. record { count = n i })
-listed_once (listed.Rows a) (listed.Refused b) e = clash (cc)
-listed_once (listed.Refused a) (listed.Rows b) e = clash (cc)
-listed_once (listed.Refused a) (listed.Refused b) e = ap (λ (w : Refusal). listed.Refused w) (refusal_once a b e)
+    ap (λ (l : Instantiables). Ok l) (λ i. record { count = n i })
+listed_once (Ok a) (Err b) e = clash (cc)
+listed_once (Err a) (Ok b) e = clash (cc)
+listed_once (Err a) (Err b) e = ap (λ (w : Refusal). Err w) (refusal_once a b e)
 
-pub answers_once : (o : Answer (List Part)) (out : List ℕ) (r s : Listed) (a b : List ℕ) → Answers o out r a → Answers o out s b → (r ≡ s) × (a ≡ b)
+pub answers_once : (o : Answer (List Part)) (out : List ℕ) (r s : Result Instantiables Refusal) (a b : List ℕ) → Answers o out r a → Answers o out s b → (r ≡ s) × (a ≡ b)
 answers_once o out r s a b p q = (listed_once r s (p.says ∙ sym q.says), p.buffer ∙ sym q.buffer)

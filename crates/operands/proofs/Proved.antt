@@ -17,8 +17,7 @@ use Rattle.rows.specs.MirrorRows.{parts_at}
 use Rattle.rows.proofs.Flats.{parts_flat, flat_length}
 use Rattle.operands.specs.MeaningOperands.{numbers_from, wanted, first_wrong, dealt, rows_in, read_lists, read_part}
 use Rattle.operands.specs.MirrorOperands.{judged}
-use Rattle.operands.specs.declared.Read.{Read}
-use Rattle.operands.specs.declared.Read.TheVariants.{Whole, Wrong}
+use Rattle.std.specs.Prelude.{Result, Ok, Err}
 use Rattle.operands.specs.Claims.{ListsRead, ListsRefused, PartsRead, Good, AllGood, FirstBad}
 use Rattle.operands.proofs.Cuts.{clash, rows_nil, rows_cons}
 use Rattle.operands.proofs.RowParts.{good_row, names_back_law}
@@ -106,8 +105,8 @@ pub parts_read : PartsRead
 unfolding parts_at flat flat_map
 parts_read l L = (λ e. out (judged (1 ∷ []) l) refl e, λ h. rw (h.2, h.1) (part_back h.0 h.3))
   where
-    out : (r : Read) → judged (1 ∷ []) l ≡ r → read_part l ≡ done L → (p : Part) × (L ≡ p ∷ []) × (l ≡ row_of p) × Good p
-    out Whole w e =
+    out : (r : Result (Unit {0}) ℕ) → judged (1 ∷ []) l ≡ r → read_part l ≡ done L → (p : Part) × (L ≡ p ∷ []) × (l ≡ row_of p) × Good p
+    out (Ok u) w e =
         let t = lone 1 l (taken_whole (1 ∷ []) l w) in
         (part_at l, cc (part_says l w), t.rows ∙ append-nil (row_of (part_at l)), t.good (part_at l) (here refl))
-    out (Wrong k) w e = clash (cc (part_wrong l k w))
+    out (Err k) w e = clash (cc (part_wrong l k w))

@@ -21,8 +21,7 @@ use Rattle.complex_entity.proofs.Rows.{row_long}
 use Rattle.rows.specs.MirrorRows.{parts_at}
 use Rattle.instantiables.specs.MirrorRows.{lists_at, sum, AllSets}
 use Rattle.rows.proofs.Flats.{parts_length, flat_append}
-use Rattle.operands.specs.declared.Read.{Read}
-use Rattle.operands.specs.declared.Read.TheVariants.{Whole, Wrong}
+use Rattle.std.specs.Prelude.{Result, Ok, Err}
 use Rattle.operands.specs.MeaningOperands.{is_row, names_in, rows_in, numbers_from, wanted, first_wrong, dealt, read_lists, read_list, read_part, Operand, a_list, a_part, read}
 use Rattle.operands.specs.MirrorOperands.{good_from, read_of, judged, counts_of, Operable}
 use Rattle.operands.specs.Claims.{Good, AllGood, FirstBad}
@@ -112,11 +111,11 @@ none_wrong (n ∷ ns) k l e = go (leb n (good_from 0 n l)) refl (λ f. none_wron
             which L (there m) u v w = w L m
 
 -- ---- what is read then
-whole_is : (o : Option ℕ) → read_of o ≡ Whole → o ≡ none
+whole_is : (o : Option ℕ) → read_of o ≡ Ok tt → o ≡ none
 whole_is none e = refl
 whole_is (some k) e = clash (cc)
 
-module _ (ns l : List ℕ) (e : judged ns l ≡ Whole) where
+module _ (ns l : List ℕ) (e : judged ns l ≡ Ok tt) where
   nothing : first_wrong 0 (wanted ns) (rows_in l) ≡ none
   unfolding judged
   nothing = whole_is (first_wrong 0 (wanted ns) (rows_in l)) e
@@ -153,22 +152,22 @@ module _ (n : ℕ) (l : List ℕ) where
         few = omega (arith, g.1, parts_length n l);
       }
 
-  lone_says : judged (n ∷ []) l ≡ Whole → mapped flatten (read_lists (n ∷ []) l) ≡ done (parts_at n l)
+  lone_says : judged (n ∷ []) l ≡ Ok tt → mapped flatten (read_lists (n ∷ []) l) ≡ done (parts_at n l)
   unfolding lists_at flatten
   lone_says e = rw (taken_says (n ∷ []) l e) (ap (λ (L : List Part). done L) (append-nil (parts_at n l)))
 
 -- a good operand
-operable : (n : ℕ) (l : List ℕ) → judged (n ∷ []) l ≡ Whole → (n ≡ length l / 13) × Operable l
+operable : (n : ℕ) (l : List ℕ) → judged (n ∷ []) l ≡ Ok tt → (n ≡ length l / 13) × Operable l
 operable n l e =
     let t = lone n l (taken_whole (n ∷ []) l e) in
     let d : n ≡ length l / 13 = omega (arith, t.whole) in
     (d, record { whole = omega (arith, t.whole); few = omega (arith, t.few); sets = rw (← d) (λ p m. (t.good p m).rising) })
 
-module _ (i : Operand) (l : List ℕ) (r : Read) (w : r ≡ judged (counts_of i l) l) (e : r ≡ Whole) where
+module _ (i : Operand) (l : List ℕ) (r : Result (Unit {0}) ℕ) (w : r ≡ judged (counts_of i l) l) (e : r ≡ Ok tt) where
   pub operand_operable : Operable l
   operand_operable = go i (sym w ∙ e)
     where
-      go : (i : Operand) → judged (counts_of i l) l ≡ Whole → Operable l
+      go : (i : Operand) → judged (counts_of i l) l ≡ Ok tt → Operable l
       go a_list u = (operable (length (rows_in l)) l u).1
       go a_part u = (operable 1 l u).1
 
@@ -176,46 +175,46 @@ module _ (i : Operand) (l : List ℕ) (r : Read) (w : r ≡ judged (counts_of i 
   unfolding read read_list read_part
   operand_says = go i (sym w ∙ e)
     where
-      go : (i : Operand) → judged (counts_of i l) l ≡ Whole → read i l ≡ done (parts_at (length l / 13) l)
+      go : (i : Operand) → judged (counts_of i l) l ≡ Ok tt → read i l ≡ done (parts_at (length l / 13) l)
       go a_list u = lone_says (length (rows_in l)) l u ∙ ap (λ (n : ℕ). done (parts_at n l)) (operable (length (rows_in l)) l u).0
       go a_part u = lone_says 1 l u ∙ ap (λ (n : ℕ). done (parts_at n l)) (operable 1 l u).0
 
 -- ---- something is wrong
-wrong_is : (o : Option ℕ) (k : ℕ) → read_of o ≡ Wrong k → o ≡ some k
+wrong_is : (o : Option ℕ) (k : ℕ) → read_of o ≡ Err k → o ≡ some k
 wrong_is none k e = clash (cc)
 wrong_is (some j) k e = ap (λ (i : ℕ). some i) (cc)
 
-module _ (ns l : List ℕ) (k : ℕ) (e : judged ns l ≡ Wrong k) where
+module _ (ns l : List ℕ) (k : ℕ) (e : judged ns l ≡ Err k) where
   pub wrong_says : read_lists ns l ≡ refused 15 k
   unfolding judged read_lists
   wrong_says = rw (wrong_is (first_wrong 0 (wanted ns) (rows_in l)) k e) refl
 
-pub operand_wrong : (i : Operand) (l : List ℕ) (r : Read) (k : ℕ) → r ≡ judged (counts_of i l) l → r ≡ Wrong k → read i l ≡ refused 15 k
+pub operand_wrong : (i : Operand) (l : List ℕ) (r : Result (Unit {0}) ℕ) (k : ℕ) → r ≡ judged (counts_of i l) l → r ≡ Err k → read i l ≡ refused 15 k
 unfolding read read_list read_part
 operand_wrong i l r k w e = go i (sym w ∙ e)
   where
-    go : (i : Operand) → judged (counts_of i l) l ≡ Wrong k → read i l ≡ refused 15 k
+    go : (i : Operand) → judged (counts_of i l) l ≡ Err k → read i l ≡ refused 15 k
     go a_list u = rw (wrong_says (length (rows_in l) ∷ []) l k u) refl
     go a_part u = rw (wrong_says (1 ∷ []) l k u) refl
 
 -- one part
-pub part_says : (l : List ℕ) → judged (1 ∷ []) l ≡ Whole → read_part l ≡ done (part_at l ∷ [])
+pub part_says : (l : List ℕ) → judged (1 ∷ []) l ≡ Ok tt → read_part l ≡ done (part_at l ∷ [])
 unfolding read_part parts_at
 part_says l w = lone_says 1 l w
 
-pub part_wrong : (l : List ℕ) (k : ℕ) → judged (1 ∷ []) l ≡ Wrong k → read_part l ≡ refused 15 k
+pub part_wrong : (l : List ℕ) (k : ℕ) → judged (1 ∷ []) l ≡ Err k → read_part l ≡ refused 15 k
 unfolding read_part
 part_wrong l k w = rw (wrong_says (1 ∷ []) l k w) refl
 
 -- what is read of a part operand
-module _ (l : List ℕ) (r : Read) (w : r ≡ judged (1 ∷ []) l) where
-  pub part_room : r ≡ Whole → 0 + 13 ≤ length l
+module _ (l : List ℕ) (r : Result (Unit {0}) ℕ) (w : r ≡ judged (1 ∷ []) l) where
+  pub part_room : r ≡ Ok tt → 0 + 13 ≤ length l
   part_room e = omega (arith, (lone 1 l (taken_whole (1 ∷ []) l (sym w ∙ e))).whole)
 
-  pub part_read : r ≡ Whole → read_part l ≡ done (part_at l ∷ [])
+  pub part_read : r ≡ Ok tt → read_part l ≡ done (part_at l ∷ [])
   part_read e = part_says l (sym w ∙ e)
 
-  pub part_refused : (k : ℕ) → r ≡ Wrong k → read_part l ≡ refused 15 k
+  pub part_refused : (k : ℕ) → r ≡ Err k → read_part l ≡ refused 15 k
   part_refused k e = part_wrong l k (sym w ∙ e)
 
 -- ---- a list is its rows, or has a first bad one
@@ -238,7 +237,7 @@ first_bad l g r h =
         let t : take 13 (drop (13 * g) l) ≡ row_of p = rw e (take_at (row_of p) rest 13 (row_long p u.few)) in
         clash (cc (good_row p u, t))
 
-wrong_place : (l : List ℕ) (k : ℕ) → judged (length (rows_in l) ∷ []) l ≡ Wrong k → FirstBad l k
+wrong_place : (l : List ℕ) (k : ℕ) → judged (length (rows_in l) ∷ []) l ≡ Err k → FirstBad l k
 unfolding judged wanted first_wrong
 wrong_place l k e = go (leb n g) refl (wrong_is (first_wrong 0 (numbers_from 0 n ++ []) (rows_in l)) k e)
   where
@@ -263,9 +262,9 @@ pub list_seen : (l : List ℕ) → Seen l (read_list l)
 unfolding read_list
 list_seen l = go (judged (length (rows_in l) ∷ []) l) refl
   where
-    go : (r : Read) → judged (length (rows_in l) ∷ []) l ≡ r → Seen l (mapped flatten (read_lists (length (rows_in l) ∷ []) l))
-    go Whole e =
+    go : (r : Result (Unit {0}) ℕ) → judged (length (rows_in l) ∷ []) l ≡ r → Seen l (mapped flatten (read_lists (length (rows_in l) ∷ []) l))
+    go (Ok u) e =
         let t = lone (length (rows_in l)) l (taken_whole (length (rows_in l) ∷ []) l e) in
         rw (lone_says (length (rows_in l)) l e)
         (whole (parts_at (length (rows_in l)) l) t.rows t.good (omega (arith, t.few, parts_length (length (rows_in l)) l)))
-    go (Wrong k) e = rw (wrong_says (length (rows_in l) ∷ []) l k e) (wrong k (wrong_place l k e))
+    go (Err k) e = rw (wrong_says (length (rows_in l) ∷ []) l k e) (wrong k (wrong_place l k e))

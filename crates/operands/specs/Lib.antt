@@ -1,6 +1,5 @@
 pub mod MeaningOperands
 pub mod MeaningResults
-pub mod Told
 pub mod MirrorOperands
 pub mod MirrorResults
 pub mod Promises

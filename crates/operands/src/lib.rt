@@ -3,105 +3,88 @@
 // Rows as a caller lends them: operands are read from them, with nothing checked beforehand, and results handed out to them.
 #![tactic(auto)]
 
-ghost use Rattle.std.specs.Prelude.{◌≡◌, [], ◌∷◌, ◌≤◌, length};
+ghost use Rattle.std.specs.Prelude.{◌≡◌, [], ◌∷◌, ◌&&◌, ◌≤◌, length, leb};
 ghost use Rattle.complex_entity.specs.MirrorParts.{names_of};
 ghost use Rattle.instantiables.specs.Told.{told_listed};
-ghost use Rattle.operands.specs.MeaningOperands.{is_row, a_list};
+ghost use Rattle.complex_entity.specs.MeaningParts.{last_index};
+ghost use Rattle.operands.specs.MeaningOperands as operands;
+ghost use Rattle.operands.specs.MeaningOperands.{each, rises, is_row, a_list, a_part};
 ghost use Rattle.operands.specs.MeaningResults.{fitting};
 ghost use Rattle.operands.specs.MirrorOperands.{good_from, judged, counts_of};
 ghost use Rattle.operands.specs.MirrorResults.{Within, Handed};
-ghost use Rattle.operands.specs.Told.{told_operand};
 ghost use Rattle.operands.specs.Promises.{Answers};
 
 use complex_entity::PartialComplexEntity;
-use instantiables::{Instantiables, Listed};
-use refusal::Refusal;
+use instantiables::Instantiables;
+use refusal::{Reason, Refusal};
 use rows::copy;
 
 // What an operand is to be.
-#[derive(Clone, Copy)]
-pub enum Operand {
-    List,
-    Part,
+pub trait Operand {
+    ghost meaning: { operands.Operand };
+
+    // All the rows are good, or the first that is wrong is named by its number.
+    fn read(rows: &[u16]) -> Result<(), usize>
+        ensures { result ≡ judged (counts_of meaning rows.now) rows.now };
 }
 
-// An operand's rows: all of them good, or the number of the first that is wrong.
-#[derive(Clone, Copy)]
-pub enum Read {
-    Whole,
-    Wrong(usize),
-}
+pub struct List;
 
-// ---- operands
+impl Operand for List {
+    ghost meaning = { a_list };
 
-// A part is a list of one row.
-pub fn read_operand(operand: Operand, rows: &[u16]) -> Read
-    ensures { result ≡ judged (counts_of (told_operand operand) rows.now) rows.now }
-{
-    match operand {
-        Operand::List => read_list(rows),
-        Operand::Part => read_lists(&[1], rows),
+    // As many rows as there are, a cut one too; of more than 128 the 129th is wrong, whatever comes after it.
+    fn read(rows: &[u16]) -> Result<(), usize> {
+        if rows.len() > Instantiables::ROOM {
+            return read_lists(&[129], rows);
+        }
+        let count = rows.len().div_ceil(PartialComplexEntity::ROW);
+        read_lists(&[count as u16], rows)
     }
 }
 
-// As many rows as there are, a cut one too; of more than 128 the 129th is wrong, whatever comes after it.
-fn read_list(rows: &[u16]) -> Read
-    ensures { result ≡ judged (counts_of a_list rows.now) rows.now }
-{
-    let numbers = rows.len();
-    if numbers > Instantiables::ROOM {
-        return read_lists(&[129], rows);
+pub struct Part;
+
+impl Operand for Part {
+    ghost meaning = { a_part };
+
+    // A part is a list of one row.
+    fn read(rows: &[u16]) -> Result<(), usize> {
+        read_lists(&[1], rows)
     }
-    let count = (numbers + 12) / PartialComplexEntity::ROW;
-    read_lists(&[count as u16], rows)
 }
 
 // Lists of so many rows each, one after another.
-pub fn read_lists(counts: &[u16], rows: &[u16]) -> Read
+pub fn read_lists(counts: &[u16], rows: &[u16]) -> Result<(), usize>
     ensures { result ≡ judged counts.now rows.now }
 {
+    // The sum of the counts so far, by which rows are named: a fold over it is no plainer.
     let mut k = 0;
-    let mut at = 0;
-    let mut c = 0;
-    while c < counts.len() {
-        let n = counts[c] as usize;
-        let good = good_rows(&rows[at..], n);
+    for &count in counts {
+        let n = usize::from(count);
+        let good = good_rows(&rows[PartialComplexEntity::ROW * k..], n);
         if good < n {
-            return Read::Wrong(k + good);
+            return Err(k + good);
         }
         k += n;
-        at += 13 * n;
-        c += 1;
     }
-    if at < rows.len() {
-        return Read::Wrong(k);
+    if PartialComplexEntity::ROW * k < rows.len() {
+        return Err(k);
     }
-    Read::Whole
+    Ok(())
 }
 
 // How many of n rows are good, up to the first that is not; at most 128 are.
 fn good_rows(rows: &[u16], n: usize) -> usize
     ensures { (result ≡ good_from 0 n rows.now) × (result ≤ 128) }
 {
-    let mut at = 0;
-    let mut i = 0;
-    while i < n {
-        if i >= Instantiables::LIMIT {
-            return i;
-        }
-        if rows.len() - at < PartialComplexEntity::ROW {
-            return i;
-        }
-        if !is_row(&rows[at..at + 13]) {
-            return i;
-        }
-        at += 13;
-        i += 1;
-    }
-    n
+    rows.chunks_exact(PartialComplexEntity::ROW)
+        .take(n.min(Instantiables::LIMIT))
+        .take_while(|row| is_row(row))
+        .count()
 }
 
-// A count, that many rising indices of at most 255, zeros. `low` is the least name that may come next.
+// A count, that many rising indices of at most 255, zeros.
 fn is_row(row: &[u16]) -> bool
     ensures { result ≡ is_row row.now }
 {
@@ -112,53 +95,46 @@ fn is_row(row: &[u16]) -> bool
     if count > PartialComplexEntity::LIMIT {
         return false;
     }
-    let mut low = 0;
-    let mut i = 1;
-    while i < PartialComplexEntity::ROW {
-        let x = row[i];
-        if i <= count {
-            if x < low {
-                return false;
-            }
-            if x > PartialComplexEntity::LAST {
-                return false;
-            }
-            low = x + 1;
-            i += 1;
-        } else if x != 0 {
-            return false;
-        } else {
-            i += 1;
-        }
-    }
-    true
+    let (names, rest) = row[1..].split_at(count);
+    are_names(names) && rest.iter().all(|x| *x == 0)
+}
+
+// Strictly rising indices of at most 255.
+fn are_names(names: &[u16]) -> bool
+    ensures { result ≡ (rises names.now && each (λ n. leb n last_index) names.now) }
+{
+    names.is_sorted_by(|x, y| x < y) && names.iter().all(|x| *x <= PartialComplexEntity::LAST)
 }
 
 // ---- results
 
 // The result's rows go to the buffer, if they fit; otherwise 12, and the buffer stays.
-pub fn hand_out(listed: Listed, work: &[u16], out: &mut [u16]) -> Listed
-    requires { Within (told_listed listed) work.now }
-    ensures { Handed (told_listed listed) work.now out.old (told_listed result) out.new }
+pub fn hand_out(
+    answer: Result<Instantiables, Refusal>,
+    work: &[u16],
+    out: &mut [u16],
+) -> Result<Instantiables, Refusal>
+    requires { Within (told_listed answer) work.now }
+    ensures { Handed (told_listed answer) work.now out.old (told_listed result) out.new }
 {
-    let Listed::Rows(list) = listed else {
-        return listed;
+    let Ok(list) = answer else {
+        return answer;
     };
-    let numbers = 13 * list.count;
+    let numbers = PartialComplexEntity::ROW * list.count;
     if out.len() < numbers {
-        return Listed::Refused(Refusal::of(12));
+        return Err(Reason::BufferTooShort.into());
     }
     copy(out, work, numbers);
-    listed
+    answer
 }
 
 // A part's row goes to the buffer, if it fits.
-pub fn hand_out_part(part: PartialComplexEntity, out: &mut [u16]) -> Listed
+pub fn hand_out_part(part: PartialComplexEntity, out: &mut [u16]) -> Result<Instantiables, Refusal>
     ensures { Answers (fitting (length out.old) (names_of part ∷ [])) out.old result out.new }
 {
     if out.len() < PartialComplexEntity::ROW {
-        return Listed::Refused(Refusal::of(12));
+        return Err(Reason::BufferTooShort.into());
     }
     part.write(out, 0);
-    Listed::Rows(Instantiables { count: 1 })
+    Ok(Instantiables { count: 1 })
 }

@@ -8,6 +8,8 @@ use lib.ListN.{length, take, drop, length-append, length-drop}
 use lib.Seq.{take_at, take-length, take-append-le, drop-append-le}
 use lib.Dec.{leb}
 use Rattle.refusal.specs.MeaningAnswer.{Answer, done, refused, or_else, mapped, ◌>>=◌}
+use Rattle.std.specs.Prelude.{Result, Ok, Err}
+use Rattle.refusal.specs.Told.{number_of}
 use Rattle.refusal.specs.declared.Refusal.{Refusal}
 use Rattle.complex_entity.specs.MeaningParts.{Part}
 use Rattle.complex_entity.specs.MeaningLists.{add, bitand, sub, div, held, prefixes, andor, most_factors, oneof, oneof_of, and_of, andor_of}
@@ -18,8 +20,6 @@ use Rattle.complex_entity.proofs.Keeping.{sub_old, div_old}
 use Rattle.rows.specs.MirrorRows.{parts_at, Stands}
 use Rattle.instantiables.specs.MirrorRows.{PutIf, Listing}
 use Rattle.instantiables.specs.declared.Instantiables.{Instantiables}
-use Rattle.instantiables.specs.declared.Listed.{Listed}
-use Rattle.instantiables.specs.declared.Listed.TheVariants.{Rows, Refused}
 use Rattle.instantiables.specs.Told.{told_listed}
 use Rattle.rows.proofs.Flats.{parts_narrow, flat_length}
 use Rattle.instantiables.proofs.Listings.{stands_empty}
@@ -30,12 +30,7 @@ use Rattle.operands.specs.MirrorOperands.{parts_in, Operable}
 use Rattle.operands.specs.MirrorResults.{Valued}
 use Rattle.operands.proofs.Cuts.{clash}
 use Rattle.operands.proofs.RowParts.{part_names}
-use Rattle.operators.specs.MeaningOperators.{value_of, value_of_all}
-use Rattle.operators.specs.Told.{told_operator, told_several}
-use Rattle.operators.specs.declared.Operator as code
-use Rattle.operators.specs.declared.Operator.TheVariants as operator
-use Rattle.operators.specs.declared.Several as kinds
-use Rattle.operators.specs.declared.Several.TheVariants as several
+use Rattle.operators.specs.MeaningOperators.{plus, times, minus, over, value_of, one_of, every_of, some_of, value_of_all}
 
 -- ---- no answer has a part of more than 12 names
 abbrev NarrowIf : Answer (List Part) → Type 0
@@ -90,33 +85,6 @@ valued o before work r n f = go o n f.says f.stands
           within = rw (e, p, length-append (flat L) (drop (13 * length L) before)) (omega arith);
         }
 
--- ---- `+`: the left list into an empty one, then the right one
-module _ (work : List ℕ) (room : 1664 ≤ length work) (e : Instantiables) (z : e ≡ record { count = 0 }) (K L : List Part) (work' : List ℕ) (r : Listed)
-    (g : Listing (held (add (parts_at e.count work) K)) work work' (told_listed r)) where
-  first : Growing work work 0 (K ++ L) (held (add K L))
-  unfolding parts_at
-  first = grow_start work 0 (K ++ L) (held (add K L)) (stands_empty work room) refl
-
-  put : Listing (held (add (parts_at 0 work) K)) work work' (told_listed r)
-  put = rw (ap (λ (x : Instantiables). x.count) z) at g
-
-  pub sum_over : (why : Refusal) → r ≡ Refused why → Listing (held (add K L)) work work' (told_listed r)
-  sum_over why u = grow_over work work 0 (K ++ L) (held (add K L)) first work' K (told_listed r) put L refl why.number why.place (ap told_listed u)
-
-  module _ (l : Instantiables) (u : r ≡ Rows l) where
-    next : Growing work work' l.count L (held (add K L))
-    next = grow_next work work 0 (K ++ L) (held (add K L)) first work' K (told_listed r) put L refl l.count (ap told_listed u)
-
-    pub sum_done : (work'' : List ℕ) (s : Listed) → Listing (held (add (parts_at l.count work') L)) work' work'' (told_listed s) → Listing (held (add K L)) work work'' (told_listed s)
-    sum_done work'' s h = grow_last work work' l.count L (held (add K L)) next work'' L (told_listed s) h refl
-
--- the list that stands after the first call
-pub sum_stands : (work : List ℕ) → 1664 ≤ length work → (e : Instantiables) → e ≡ record { count = 0 } → (K : List Part) (work' : List ℕ) (r : Listed)
-    → Listing (held (add (parts_at e.count work) K)) work work' (told_listed r) → (l : Instantiables) → r ≡ Rows l → Stands work' l.count
-sum_stands work room e z K work' r g l u = (next work room e z K [] work' r g l u).front.stands
-
-pub ruleset summing = (none_stands, sum_over, sum_stands, sum_done)
-
 -- ---- two lists
 inside : {K L : List Part} → ◌≡◌ {A = Answer (List Part)} (done K) (done L) → L ≡ K
 inside d = cc
@@ -135,47 +103,97 @@ copied_parts l work work' h e =
     let d : work' ≡ l ++ drop (length l) work = e ∙ rw (take-length l) refl in
     ap (parts_at (length l / 13)) d ∙ parts_front (length l / 13) l (drop (length l) work) (omega (arith, h.whole))
 
-module _ (op : code.Operator) (left right work : List ℕ) where
-  module _ (before : List ℕ) (t : Answer ℕ) where
-    pub value_add : op ≡ operator.Add → Listing (held (add (parts_in left) (parts_in right))) before work t → Valued (value_of (told_operator op) (parts_in left) (parts_in right)) work t
-    unfolding value_of
-    value_add e g = rw e (valued (held (add (parts_in left) (parts_in right))) before work t (narrow_held (add (parts_in left) (parts_in right))) g)
+-- as many rows as are lent
+module _ (left right : List ℕ) (n m : Instantiables) (en : n.count ≡ length left / 13) (em : m.count ≡ length right / 13) where
+  pub left_there : 13 * n.count ≤ length left
+  left_there = omega arith
 
-    pub value_bitand : op ≡ operator.Bitand → Listing (held (bitand (parts_in left) (parts_in right))) before work t → Valued (value_of (told_operator op) (parts_in left) (parts_in right)) work t
-    unfolding value_of
-    value_bitand e g = rw e (valued (held (bitand (parts_in left) (parts_in right))) before work t (narrow_held (bitand (parts_in left) (parts_in right))) g)
+  pub right_there : 13 * m.count ≤ length right
+  right_there = omega arith
 
-  module _ (work₀ work₁ : List ℕ) (h : Operable left) (c : work₁ ≡ take (length left) left ++ drop (length left) work₀) (t : Answer ℕ) where
-    pub value_sub : op ≡ operator.Sub → Listing (done (sub (parts_at (length left / 13) work₁) (parts_in right))) work₁ work t → Valued (value_of (told_operator op) (parts_in left) (parts_in right)) work t
+  -- ---- `+`: the left list into an empty one, then the right one
+  module _ (work : List ℕ) (room : 1664 ≤ length work) (e : Instantiables) (z : e ≡ record { count = 0 }) (work' : List ℕ) (r : Result Instantiables Refusal)
+      (g : Listing (held (add (parts_at e.count work) (parts_at n.count left))) work work' (told_listed r)) where
+    K : List Part
+    K = parts_at n.count left
+
+    L : List Part
+    L = parts_at m.count right
+
+    first : Growing work work 0 (K ++ L) (held (add K L))
+    unfolding parts_at
+    first = grow_start work 0 (K ++ L) (held (add K L)) (stands_empty work room) refl
+
+    put : Listing (held (add (parts_at 0 work) K)) work work' (told_listed r)
+    unfolding K
+    put = rw (ap (λ (x : Instantiables). x.count) z) at g
+
+    sum : (after : List ℕ) (t : Answer ℕ) → Listing (held (add K L)) work after t → Valued (value_of plus (parts_in left) (parts_in right)) after t
+    unfolding value_of K L
+    sum after t f = valued (held (add (parts_in left) (parts_in right))) work after t (narrow_held (add (parts_in left) (parts_in right))) (rw (en, em) at f)
+
+    sum_over : (why : Refusal) → r ≡ Err why → Valued (value_of plus (parts_in left) (parts_in right)) work' (refused (number_of why.reason) why.place)
+    sum_over why u =
+        sum work' _ (rw (ap told_listed u) at (grow_over work work 0 (K ++ L) (held (add K L)) first work' K (told_listed r) put L refl (number_of why.reason) why.place (ap told_listed u)))
+
+    module _ (l : Instantiables) (u : r ≡ Ok l) where
+      next : Growing work work' l.count L (held (add K L))
+      next = grow_next work work 0 (K ++ L) (held (add K L)) first work' K (told_listed r) put L refl l.count (ap told_listed u)
+
+      pub sum_stands : Stands work' l.count
+      sum_stands = next.front.stands
+
+      pub sum_done : (work'' : List ℕ) (s : Answer ℕ) → Listing (held (add (parts_at l.count work') (parts_at m.count right))) work' work'' s
+          → Valued (value_of plus (parts_in left) (parts_in right)) work'' s
+      unfolding L
+      sum_done work'' s h = sum work'' s (grow_last work work' l.count L (held (add K L)) next work'' L s h refl)
+
+  -- ---- `&`
+  pub value_bitand : (before work : List ℕ) (t : Answer ℕ) → Listing (held (bitand (parts_at n.count left) (parts_at m.count right))) before work t
+      → Valued (value_of times (parts_in left) (parts_in right)) work t
+  unfolding value_of
+  value_bitand before work t g =
+      valued (held (bitand (parts_in left) (parts_in right))) before work t (narrow_held (bitand (parts_in left) (parts_in right))) (rw (en, em) at g)
+
+  -- ---- `-` and `/`
+  module _ (work₀ work₁ work : List ℕ) (h : Operable left) (c : work₁ ≡ take (length left) left ++ drop (length left) work₀) (t : Answer ℕ) where
+    read : parts_at n.count work₁ ≡ parts_in left
+    read = ap (λ (k : ℕ). parts_at k work₁) en ∙ copied_parts left work₀ work₁ h c
+
+    pub value_sub : Listing (done (sub (parts_at n.count work₁) (parts_at m.count right))) work₁ work t → Valued (value_of minus (parts_in left) (parts_in right)) work t
     unfolding value_of
-    value_sub e g =
-        rw e
-        (valued (done (sub (parts_in left) (parts_in right))) work₁ work t
+    value_sub g =
+        valued (done (sub (parts_in left) (parts_in right))) work₁ work t
         (λ L d q m. parts_narrow (length left / 13) left q (sub_old (parts_in left) (parts_in right) (rw (inside d) at m)).0)
-        (rw (copied_parts left work₀ work₁ h c) at g))
+        (rw (read, em) at g)
 
-    pub value_div : op ≡ operator.Div → Listing (done (div (parts_at (length left / 13) work₁) (parts_in right))) work₁ work t → Valued (value_of (told_operator op) (parts_in left) (parts_in right)) work t
+    pub value_div : Listing (done (div (parts_at n.count work₁) (parts_at m.count right))) work₁ work t → Valued (value_of over (parts_in left) (parts_in right)) work t
     unfolding value_of
-    value_div e g =
-        rw e
-        (valued (done (div (parts_in left) (parts_in right))) work₁ work t
+    value_div g =
+        valued (done (div (parts_in left) (parts_in right))) work₁ work t
         (λ L d q m. parts_narrow (length left / 13) left q (div_old (parts_in left) (parts_in right) (rw (inside d) at m)).0)
-        (rw (copied_parts left work₀ work₁ h c) at g))
+        (rw (read, em) at g)
 
-pub ruleset valuing = (value_add, value_bitand, value_sub, value_div)
+-- a refusal of `+` comes before the right list is read
+pub sum_refused : (left right work : List ℕ) (n : Instantiables) → n.count ≡ length left / 13 → 1664 ≤ length work → (e : Instantiables) → e ≡ record { count = 0 } → (work' : List ℕ) (r : Result Instantiables Refusal)
+    → Listing (held (add (parts_at e.count work) (parts_at n.count left))) work work' (told_listed r) → (why : Refusal) → r ≡ Err why
+    → Valued (value_of plus (parts_in left) (parts_in right)) work' (refused (number_of why.reason) why.place)
+sum_refused left right work n en room e z work' r g why u = sum_over left right n (record { count = length right / 13 }) en refl work room e z work' r g why u
+
+pub ruleset valuing = (none_stands, left_there, right_there, sum_refused, sum_stands, sum_done, value_bitand, value_sub, value_div)
 
 -- ---- several lists
-module _ (op : kinds.Several) (Ls : List (List Part)) (before work : List ℕ) (t : Answer ℕ) where
-  pub value_oneof : op ≡ several.Oneof → Listing (oneof_of Ls) before work t → Valued (value_of_all (told_several op) Ls) work t
+module _ (Ls : List (List Part)) (before work : List ℕ) (t : Answer ℕ) where
+  pub value_oneof : Listing (oneof_of Ls) before work t → Valued (value_of_all one_of Ls) work t
   unfolding value_of_all oneof_of
-  value_oneof e g = rw e (valued (held (oneof Ls)) before work t (narrow_held (oneof Ls)) g)
+  value_oneof g = valued (held (oneof Ls)) before work t (narrow_held (oneof Ls)) g
 
-  pub value_and : op ≡ several.And → Listing (and_of Ls) before work t → Valued (value_of_all (told_several op) Ls) work t
+  pub value_and : Listing (and_of Ls) before work t → Valued (value_of_all every_of Ls) work t
   unfolding value_of_all
-  value_and e g = rw e (valued (and_of Ls) before work t (narrow_and Ls) g)
+  value_and g = valued (and_of Ls) before work t (narrow_and Ls) g
 
-  pub value_andor : op ≡ several.Andor → Listing (andor_of Ls) before work t → Valued (value_of_all (told_several op) Ls) work t
+  pub value_andor : Listing (andor_of Ls) before work t → Valued (value_of_all some_of Ls) work t
   unfolding value_of_all
-  value_andor e g = rw e (valued (andor_of Ls) before work t (narrow_andor Ls) g)
+  value_andor g = valued (andor_of Ls) before work t (narrow_andor Ls) g
 
 pub ruleset valuing_all = (value_oneof, value_and, value_andor)

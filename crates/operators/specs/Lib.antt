@@ -1,2 +1,1 @@
 pub mod MeaningOperators
-pub mod Told

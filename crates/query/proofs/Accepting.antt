@@ -16,7 +16,7 @@ use Rattle.grammar.proofs.Choosing.{either, clash, both}
 use Rattle.scope.specs.MeaningScope.{ScopeType, Step, Scope, Path, most_steps, stop}
 use Rattle.query.specs.MeaningQuery.{name_at, tagged, kind_for, step_of, step_at, word_at, one_more, steps_at, malformed, scope_query, path_from, path_of, path_query, Question, asked, resolve_query}
 use Rattle.scope.specs.Held.{rung_of}
-use Rattle.query.specs.MirrorQuery.{item_of, word_out, past_of}
+use Rattle.query.specs.MirrorQuery.{step_out, word_out, past_of}
 use Rattle.query.specs.Claims.{Stand, Whole, Fails, Asks, FailsAsking, StepMoves, WordMoves}
 use Rattle.query.specs.Claims.Stand.{here, then}
 use Rattle.query.specs.Claims.Fails.{bad, surplus, missing}
@@ -52,7 +52,7 @@ unfolding step_at
 step_ends q at x e = subst (StepEnds (end_of q at)) e (by_kind q at (kind_for (tag_of q at)) (name_at q at) (by_name q at))
 
 pub step_moves : StepMoves
-unfolding item_of rung_of past_of
+unfolding step_out rung_of past_of
 step_moves q at = (λ x e. rw e (step_ends q at x e), λ e. rw e refl)
 
 -- ---- the steps that are taken stand there, and no more could be

@@ -1,8 +1,9 @@
 pub mod Standing
 pub mod Reaching
 pub mod Routes
+pub mod Asking
 pub mod Ordering
-pub mod Lent
 pub mod Accepting
+pub mod Lent
 pub mod Proved
 pub mod SmallQueries

@@ -6,7 +6,12 @@ use Prim.Native.Nat.{ℕ, zero, suc, ◌+◌, ◌-◌, ◌≤◌}
 use native.Mathlib.Omega.{arith}
 use lib.Dec.{eqb}
 use lib.ListN.{length}
+use Rattle.std.specs.declared.cmp.Ordering.{Ordering}
+use Rattle.std.specs.Prelude as code
+use Rattle.std.specs.Prelude.{Ok, Err, Result}
 use Rattle.refusal.specs.MeaningAnswer.{Answer, done, refused}
+use Rattle.refusal.specs.Told.{told_refusal}
+use Rattle.refusal.specs.declared.Reason.TheVariants.{Malformed}
 use Rattle.refusal.specs.declared.Refusal.{Refusal}
 use Rattle.grammar.specs.MeaningReading.{Reading}
 use Rattle.grammar.proofs.Choosing.{either, clash}
@@ -15,12 +20,10 @@ use Rattle.scope.specs.MeaningScope.{Step, stop, most_steps, compared}
 use Rattle.scope.specs.Told.{told_kind, told_compared, told_step, told_scope}
 use Rattle.scope.specs.Held.{kind_in, rung_of, no_rung, scope_of}
 use Rattle.scope.specs.MirrorScope.{Spans, Fits}
-use Rattle.scope.specs.declared.Compared as code
 use Rattle.query.specs.MeaningQuery.{step_at, Taken, one_more, steps_at, scope_query, order_of}
 use Rattle.query.specs.Promises.{PromiseOrder}
-use Rattle.query.specs.MirrorQuery.{asked_scope_of}
-use Rattle.query.specs.declared.Verdict.TheVariants.{Done, Refused}
-use Rattle.query.specs.declared.AskedScope.{AskedScope}
+use Rattle.scope.specs.declared.Scope.{Scope}
+use Rattle.query.specs.MirrorQuery.{asked_by}
 use Rattle.query.proofs.Reaching.{Lies, StepLies, step_lies}
 use Rattle.query.proofs.Routes.{few_steps}
 
@@ -78,53 +81,53 @@ unfolding steps_at
 steps_lie zero q at = tt
 steps_lie (suc k) q at = lie_by q at (steps_at k q) (steps_lie k q) (step_at q at) (step_lies q at)
 
+-- a scope that was read lies in the query, and a refusal is 15
 abbrev Read : List ℕ → Answer meaning.Scope → Type 0
-Read q (refused n p) = Unit {0}
+Read q (refused n p) = n ≡ 15
 Read q (done l) = AllLie q l × (length l ≤ 3)
 
 scope_read : (q : List ℕ) → Read q (scope_query q)
 unfolding scope_query
-scope_read q = either (Read q) (eqb (steps_at most_steps q 0).after (length q)) _ _ (λ _. (steps_lie most_steps q 0, few_steps most_steps q 0)) (λ _. tt)
-
-fits_by : (q : List ℕ) (o : Answer meaning.Scope) → Read q o → Fits q (asked_scope_of o).scope
-unfolding asked_scope_of
-fits_by q (refused n p) f = record { few = omega arith; first = spans_none q; second = spans_none q; third = spans_none q }
-fits_by q (done l) f = steps_fit q l f.0 f.1
+scope_read q = either (Read q) (eqb (steps_at most_steps q 0).after (length q)) _ _ (λ _. (steps_lie most_steps q 0, few_steps most_steps q 0)) (λ _. refl)
 
 -- ---- the question
 
-module _ (q : List ℕ) (a : AskedScope) (e : a ≡ asked_scope_of (scope_query q)) where
-  pub scope_fits : Fits q a.scope
-  scope_fits = rw e (fits_by q (scope_query q) (scope_read q))
-
-  told_refused : (w : Refusal) → a.verdict ≡ Refused w → scope_query q ≡ refused w.number w.place
-  unfolding asked_scope_of
-  told_refused w k = go (scope_query q) (sym (ap (λ (x : AskedScope). x.verdict) e) ∙ k)
+module _ (q : List ℕ) (a : Result Scope Refusal) (e : a ≡ asked_by scope_of (scope_query q)) where
+  told_refused : (w : Refusal) → a ≡ Err w → scope_query q ≡ told_refusal w
+  unfolding asked_by
+  told_refused w k = go (scope_query q) (scope_read q) (sym e ∙ k)
     where
-      go : (o : Answer meaning.Scope) → (asked_scope_of o).verdict ≡ Refused w → o ≡ refused w.number w.place
-      go (refused n p) z = let u : record { number = n; place = p } ≡ w = cc in rw (← u) refl
-      go (done l) z = clash (cc)
+      go : (o : Answer meaning.Scope) → Read q o → asked_by scope_of o ≡ Err w → o ≡ told_refusal w
+      go (refused n p) f z = let u : record { reason = Malformed; place = p } ≡ w = cc in rw (← u, f) refl
+      go (done l) f z = clash (cc)
 
-  told_done : a.verdict ≡ Done → scope_query q ≡ done (told_scope q a.scope)
-  unfolding asked_scope_of
-  told_done k = rw e (go (scope_query q) (scope_read q) (sym (ap (λ (x : AskedScope). x.verdict) e) ∙ k))
-    where
-      go : (o : Answer meaning.Scope) → Read q o → (asked_scope_of o).verdict ≡ Done → o ≡ done (told_scope q (asked_scope_of o).scope)
-      go (refused n p) f z = clash (cc)
-      go (done l) f z = rw (steps_back q l f.0 f.1) refl
+  module _ (x : Scope) (k : a ≡ Ok x) where
+    held : (l : List Step) × (scope_query q ≡ done l) × AllLie q l × (length l ≤ 3) × (scope_of l ≡ x)
+    unfolding asked_by
+    held = go (scope_query q) refl (scope_read q) (sym e ∙ k)
+      where
+        go : (o : Answer meaning.Scope) → scope_query q ≡ o → Read q o → asked_by scope_of o ≡ Ok x → (l : List Step) × (scope_query q ≡ done l) × AllLie q l × (length l ≤ 3) × (scope_of l ≡ x)
+        go (refused n p) v f z = clash (cc)
+        go (done l) v f z = (l, v, f.0, f.1, cc)
 
-module _ (rd : Reading) (l r : List ℕ) (a : AskedScope) (e : a ≡ asked_scope_of (scope_query l)) where
-  pub order_left : (w : Refusal) → a.verdict ≡ Refused w → PromiseOrder rd l r (code.TheVariants.Refused w)
-  unfolding PromiseOrder told_compared order_of
-  order_left w k = rw (told_refused l a e w k) refl
+    pub scope_fits : Fits q x
+    scope_fits = let z = held in rw (← z.4) (steps_fit q z.0 z.2 z.3)
 
-  module _ (k : a.verdict ≡ Done) (b : AskedScope) (f : b ≡ asked_scope_of (scope_query r)) where
-    pub order_right : (w : Refusal) → b.verdict ≡ Refused w → PromiseOrder rd l r (code.TheVariants.Refused w)
-    unfolding PromiseOrder told_compared order_of
-    order_right w m = rw (told_done l a e k, told_refused r b f w m) refl
+    told_done : scope_query q ≡ done (told_scope q x)
+    told_done = let z = held in z.1 ∙ ap done (sym (steps_back q z.0 z.2 z.3) ∙ ap (told_scope q) z.4)
 
-    pub order_both : b.verdict ≡ Done → (c : code.Compared) → told_compared c ≡ done (compared rd (told_scope l a.scope) (told_scope r b.scope)) → PromiseOrder rd l r c
+module _ (rd : Reading) (l r : List ℕ) (a : Result Scope Refusal) (e : a ≡ asked_by scope_of (scope_query l)) where
+  pub order_left : (w : Refusal) → a ≡ Err w → (v : Result (code.Option Ordering) Refusal) → v ≡ Err w → PromiseOrder rd l r v
+  unfolding PromiseOrder order_of
+  order_left w k v m = rw (m, told_refused l a e w k) refl
+
+  module _ (x : Scope) (k : a ≡ Ok x) (b : Result Scope Refusal) (f : b ≡ asked_by scope_of (scope_query r)) where
+    pub order_right : (w : Refusal) → b ≡ Err w → (v : Result (code.Option Ordering) Refusal) → v ≡ Err w → PromiseOrder rd l r v
     unfolding PromiseOrder order_of
-    order_both m c z = z ∙ sym (rw (told_done l a e k, told_done r b f m) refl)
+    order_right w m v n = rw (n, told_done l a e x k, told_refused r b f w m) refl
+
+    pub order_both : (y : Scope) → b ≡ Ok y → (c : code.Option Ordering) → told_compared c ≡ compared rd (told_scope l x) (told_scope r y) → PromiseOrder rd l r (Ok c)
+    unfolding PromiseOrder order_of
+    order_both y m c z = rw (told_done l a e x k, told_done r b f y m, z) refl
 
 pub ruleset ordering = (scope_fits, order_left, order_right, order_both)

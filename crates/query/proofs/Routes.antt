@@ -7,26 +7,24 @@ use native.Mathlib.Omega.{arith}
 use borrow.Author.Tests.{eq-eqb, ne_eqb, lt-leb}
 use lib.ListN.{length}
 use Rattle.refusal.specs.MeaningAnswer.{done}
+use Rattle.std.specs.Prelude as code
+use Rattle.std.specs.Prelude.{Some, None, Ok, Err, Result}
+use Rattle.refusal.specs.declared.Reason.TheVariants.{Malformed}
 use Rattle.refusal.specs.declared.Refusal.{Refusal}
 use Rattle.sheet.specs.MeaningSheet.{tag_of, end_of}
 use Rattle.grammar.proofs.Choosing.{clash}
 use Rattle.scope.specs.MeaningScope as meaning
 use Rattle.scope.specs.MeaningScope.{Step, most_steps, stop}
 use Rattle.query.specs.MeaningQuery.{name_at, kind_for, step_at, Taken, one_more, steps_at, path_from, path_of, path_query}
-use Rattle.scope.specs.Held.{rung_of, no_rung, scope_0, scope_of, path_in}
+use Rattle.scope.specs.Held.{rung_of, scope_of, path_in}
 use Rattle.scope.specs.MirrorScope.{popped_from, last_of}
-use Rattle.query.specs.MirrorQuery.{item_of, step_in, past_of, front, followed_by, no_path, asked_path_of}
+use Rattle.query.specs.MirrorQuery.{step_out, step_in, past_of, moved_to, past_step, front, asked_by}
 use Rattle.scope.specs.declared.Rung.{Rung}
 use Rattle.scope.specs.declared.Scope.{Scope}
-use Rattle.scope.specs.declared.Popped.{Popped}
-use Rattle.scope.specs.declared.Popped.TheVariants.{Outer, Root}
-use Rattle.query.specs.declared.Item.TheVariants.{Found, Nothing}
-use Rattle.query.specs.declared.Followed.{Followed}
-use Rattle.query.specs.declared.AskedPath.{AskedPath}
-use Rattle.query.specs.declared.Verdict.TheVariants.{Done, Refused}
 use Rattle.scope.proofs.Holding.{pop_refused}
 use Rattle.query.proofs.Standing.{no_name}
-use Rattle.query.proofs.Reaching.{behind, nobody, scope_first, next_behind, at_behind}
+use Rattle.query.specs.declared.Place.{Place}
+use Rattle.query.proofs.Reaching.{behind, nobody}
 
 -- ---- one step more: what the fourth adds to three
 
@@ -46,8 +44,8 @@ steps_by : (q : List ℕ) (at : ℕ) (long less : ℕ → Taken) → ((b : ℕ) 
 steps_by q at long less h none e = rw e refl
 steps_by q at long less h (some x) e = let b = stop x.name in ap (λ (t : Taken). record { steps = x ∷ t.steps; after = t.after }) (h b) ∙ in_front x (less b) (step_at q (less b).after)
 
-after_one : (t : Taken) (m : Option Step) → (then_one t m).after ≡ past_of (item_of m) t.after
-unfolding item_of past_of rung_of
+after_one : (t : Taken) (m : Option Step) → (then_one t m).after ≡ past_of (λ (x : Rung). x.stop) (step_out m) t.after
+unfolding step_out past_of rung_of
 after_one t none = refl
 after_one t (some x) = refl
 
@@ -81,7 +79,7 @@ from_last (y ∷ l) x e = ap done (go y l)
     go y [] = refl
     go y (z ∷ l) = ap (λ (p : meaning.Path). record { scope = y ∷ p.scope; item = p.item }) (go z l)
 
-outer_of : (x : Step) (l : List Step) → length (x ∷ l) ≤ 3 → popped_from (scope_of (x ∷ l)) ≡ Outer (scope_of (path_from x l).scope)
+outer_of : (x : Step) (l : List Step) → length (x ∷ l) ≤ 3 → popped_from (scope_of (x ∷ l)) ≡ Some (scope_of (path_from x l).scope)
 unfolding popped_from scope_of path_from
 outer_of x [] h = refl
 outer_of x (y ∷ []) h = refl
@@ -95,59 +93,61 @@ item_of_law x (y ∷ []) h = refl
 item_of_law x (y ∷ z ∷ []) h = refl
 item_of_law x (y ∷ z ∷ w ∷ l) h = absurd (let e : ⊥ = omega arith in e)
 
-root_only : (l : List Step) → length l ≤ 3 → popped_from (scope_of l) ≡ Root → l ≡ []
+root_only : (l : List Step) → length l ≤ 3 → popped_from (scope_of l) ≡ None → l ≡ []
 root_only [] h e = refl
-root_only (x ∷ l) h e = let z : Outer (scope_of (path_from x l).scope) ≡ Root = sym (outer_of x l h) ∙ e in clash (cc)
+root_only (x ∷ l) h e = let z : ◌≡◌ {A = code.Option Scope} (Some (scope_of (path_from x l).scope)) None = sym (outer_of x l h) ∙ e in clash (cc)
 
-last_asked : (l : List Step) → length l ≤ 3 → (u : Scope) → popped_from (scope_of l) ≡ Outer u → (e : ℕ) → record { verdict = Done; path = record { scope = u; item = last_of (scope_of l) } } ≡ asked_path_of (path_of l e)
-unfolding path_of asked_path_of path_in
-last_asked [] h u k e = let z : Root ≡ Outer u = sym pop_refused ∙ k in clash (cc)
+last_asked : (l : List Step) → length l ≤ 3 → (u : Scope) → popped_from (scope_of l) ≡ Some u → (e : ℕ) → Ok (record { scope = u; item = last_of (scope_of l) }) ≡ asked_by path_in (path_of l e)
+unfolding path_of asked_by path_in
+last_asked [] h u k e = let z : ◌≡◌ {A = code.Option Scope} None (Some u) = sym pop_refused ∙ k in clash (cc)
 last_asked (x ∷ l) h u k e =
-    let z : Outer (scope_of (path_from x l).scope) ≡ Outer u = sym (outer_of x l h) ∙ k in
+    let z : Some (scope_of (path_from x l).scope) ≡ Some u = sym (outer_of x l h) ∙ k in
     let y : scope_of (path_from x l).scope ≡ u = cc in
     rw (item_of_law x l h, y) refl
 
-pub path_zeros : (w : Refusal) (p : ℕ) → w ≡ record { number = 15; place = p } → (s : Scope) → s ≡ scope_0 → (n : Rung) → n ≡ no_rung → ◌≡◌ {A = AskedPath} (record { verdict = Refused w; path = record { scope = s; item = n } }) (no_path 15 p)
-path_zeros w p d s e n f = rw (d, e, f) refl
-
-module _ (q : List ℕ) (t : Followed) (h : t ≡ followed_by step_in q) where
+-- behind the steps
+module _ (q : List ℕ) (s : Scope) (h : s ≡ scope_of (front q).steps) (p : Place) (k : p ≡ moved_to (front q).after (record { at = 0; end = length q })) where
   abbrev fourth : Option Step
   fourth = step_at q (front q).after
 
-  next_is : t.next ≡ item_of fourth
-  next_is = next_behind step_in q t h
+  module _ (n : code.Option Rung) (e : n ≡ step_in q p.at) (r : Place) (m : r ≡ past_step q p) where
+    next_is : n ≡ step_out fourth
+    next_is = rw k at e
 
-  at_four : (steps_at (suc most_steps) q 0).after ≡ t.at
-  at_four = ap (λ (u : Taken). u.after) (steps_more most_steps q 0) ∙ (after_one (front q) fourth ∙ sym (at_behind step_in q t h))
+    at_four : (steps_at (suc most_steps) q 0).after ≡ r.at
+    at_four = ap (λ (u : Taken). u.after) (steps_more most_steps q 0) ∙ (after_one (front q) fourth ∙ sym (ap (λ (p : Place). p.at) (m ∙ ap (past_step q) k)))
 
-  -- a field that is no step, or one too many
-  pub path_more : (t.at ≡ length q → ⊥) → (r : AskedPath) → r ≡ no_path 15 t.at → r ≡ asked_path_of (path_query q)
-  unfolding path_query asked_path_of
-  path_more d r k = k ∙ sym (rw (at_four, ne_eqb t.at (length q) d) refl)
+    at_end : r.end ≡ length q
+    at_end = rw (m, k) refl
 
-  module _ (w : t.at ≡ length q) where
-    whole : path_query q ≡ path_of (then_one (front q) fourth).steps (length q)
-    unfolding path_query
-    whole = rw (at_four, eq-eqb t.at (length q) w, steps_more most_steps q 0) refl
+    -- a field that is no step, or one too many
+    pub path_more : (r.at ≡ r.end → ⊥) → (w : Refusal) → w ≡ record { reason = Malformed; place = r.at } → Err w ≡ asked_by path_in (path_query q)
+    unfolding path_query asked_by
+    path_more d w z = rw z (sym (rw (at_four, ne_eqb r.at (length q) (λ i. d (i ∙ sym at_end))) refl))
 
-    pub path_four : (x : Rung) → t.next ≡ Found x → record { verdict = Done; path = record { scope = t.scope; item = x } } ≡ asked_path_of (path_query q)
-    unfolding asked_path_of path_in
-    path_four x f =
-        let b = behind fourth t.next x next_is f in
-        sym (rw (whole, b.1, from_last (front q).steps b.0 (length q), b.2, scope_first step_in q t h) refl)
+    module _ (w : r.at ≡ r.end) where
+      whole : path_query q ≡ path_of (then_one (front q) fourth).steps (length q)
+      unfolding path_query
+      whole = rw (at_four, eq-eqb r.at (length q) (w ∙ at_end), steps_more most_steps q 0) refl
 
-    module _ (f : t.next ≡ Nothing) (o : Popped) (e : o ≡ popped_from t.scope) where
-      fewer : path_query q ≡ path_of (front q).steps (length q)
-      fewer = whole ∙ rw (nobody fourth t.next next_is f) refl
+      pub path_four : (x : Rung) → n ≡ Some x → Ok (record { scope = s; item = x }) ≡ asked_by path_in (path_query q)
+      unfolding asked_by path_in
+      path_four x f =
+          let b = behind fourth n x next_is f in
+          sym (rw (whole, b.1, from_last (front q).steps b.0 (length q), b.2, h) refl)
 
-      taken : popped_from (scope_of (front q).steps) ≡ o
-      taken = rw (← scope_first step_in q t h) (sym e)
+      module _ (f : n ≡ None) (o : code.Option Scope) (i : o ≡ popped_from s) where
+        fewer : path_query q ≡ path_of (front q).steps (length q)
+        fewer = whole ∙ rw (nobody fourth n next_is f) refl
 
-      pub path_none : o ≡ Root → (r : AskedPath) → r ≡ no_path 15 t.at → r ≡ asked_path_of (path_query q)
-      unfolding path_of asked_path_of
-      path_none k r z = z ∙ sym (rw (fewer, root_only (front q).steps (few_steps most_steps q 0) (taken ∙ k), ← w) refl)
+        taken : popped_from (scope_of (front q).steps) ≡ o
+        taken = rw (← h) (sym i)
 
-      pub path_last : (u : Scope) → o ≡ Outer u → (r : Rung) → r ≡ last_of t.scope → record { verdict = Done; path = record { scope = u; item = r } } ≡ asked_path_of (path_query q)
-      path_last u k r z = rw (z, fewer, scope_first step_in q t h) (last_asked (front q).steps (few_steps most_steps q 0) u (taken ∙ k) (length q))
+        pub path_none : o ≡ None → (z : Refusal) → z ≡ record { reason = Malformed; place = r.at } → Err z ≡ asked_by path_in (path_query q)
+        unfolding path_of asked_by
+        path_none j z l = rw l (sym (rw (fewer, root_only (front q).steps (few_steps most_steps q 0) (taken ∙ j), ← at_end, ← w) refl))
 
-pub ruleset routing = (path_zeros, path_more, path_four, path_none, path_last)
+        pub path_last : (u : Scope) → o ≡ Some u → (x : Rung) → x ≡ last_of s → Ok (record { scope = u; item = x }) ≡ asked_by path_in (path_query q)
+        path_last u j x z = rw (z, fewer, h) (last_asked (front q).steps (few_steps most_steps q 0) u (taken ∙ j) (length q))
+
+pub ruleset routing = (path_more, path_four, path_none, path_last)

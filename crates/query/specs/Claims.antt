@@ -1,22 +1,23 @@
 -- What is proved, to be read without the proofs: each claim is a type, and proofs/Proved.antt has a member of each.
-use Rattle.std.specs.Prelude.{ℕ, ◌<◌, ◌≤◌, ◌≡◌, ◌↔◌, List, [], ◌∷◌, ◌++◌, length}
+use Rattle.std.specs.declared.cmp.Ordering.{Ordering}
+use Rattle.std.specs.Prelude.{ℕ, ◌<◌, ◌≤◌, ◌≡◌, ◌↔◌, List, [], ◌∷◌, ◌++◌, length, Result}
+use Rattle.std.specs.Prelude as code
 use Rattle.std.proofs.Math.Option.{Option, none, some}
 use Rattle.refusal.specs.MeaningAnswer.{done, refused}
+use Rattle.refusal.specs.declared.Refusal.{Refusal}
 use Rattle.grammar.specs.MeaningReading.{Reading}
 use Rattle.sheet.specs.MeaningName.{Name}
 use Rattle.sheet.specs.MeaningSheet.{end_of}
 use Rattle.scope.specs.MeaningScope.{Step, Scope, most_steps, Path}
-use Rattle.scope.specs.declared.Compared.{Compared}
 use Rattle.query.specs.MeaningQuery.{step_at, word_at, steps_at, scope_query, path_query, Question, resolve_query}
 use Rattle.query.specs.Promises.{PromiseOrder}
 use Rattle.query.specs.MirrorQuery.{step_in, word_in, past_of}
-use Rattle.query.specs.declared.Item.{Item}
 
 -- ---- of every answer that `order` can give
 
 -- two queries allow one outcome
 abbrev pub OrderOnce : Type 0
-OrderOnce = (rd : Reading) (left right : List ℕ) (r r' : Compared) → PromiseOrder rd left right r → PromiseOrder rd left right r' → r ≡ r'
+OrderOnce = (rd : Reading) (left right : List ℕ) (r r' : Result (code.Option Ordering) Refusal) → PromiseOrder rd left right r → PromiseOrder rd left right r' → r ≡ r'
 
 -- ---- queries: which are accepted, and where the others are refused
 
@@ -71,14 +72,14 @@ ResolveRefuses = (q : List ℕ) (n at : ℕ) → (resolve_query q ≡ refused n 
 
 -- ---- "the reader's place moves on past each accepted field", and stays where there is none
 
-abbrev pub Moves : {A : Type 0} → (accepted : List ℕ → ℕ → Option A) → (read : List ℕ → ℕ → Item) → Type 0
-Moves {A} accepted read = (q : List ℕ) (at : ℕ) → ((x : A) → accepted q at ≡ some x → past_of (read q at) at ≡ end_of q at) × (accepted q at ≡ none → past_of (read q at) at ≡ at)
+abbrev pub Moves : {A B : Type 0} → (accepted : List ℕ → ℕ → Option A) → (read : List ℕ → ℕ → code.Option B) → (stop_of : B → ℕ) → Type 0
+Moves {A} accepted read stop_of = (q : List ℕ) (at : ℕ) → ((x : A) → accepted q at ≡ some x → past_of stop_of (read q at) at ≡ end_of q at) × (accepted q at ≡ none → past_of stop_of (read q at) at ≡ at)
 
 abbrev pub StepMoves : Type 0
-StepMoves = Moves step_at step_in
+StepMoves = Moves step_at step_in (λ x. x.stop)
 
 abbrev pub WordMoves : Type 0
-WordMoves = Moves word_at word_in
+WordMoves = Moves word_at word_in (λ x. x.stop)
 
 -- past a whole scope: each of its steps stands where the one before ends
 abbrev pub ScopeMoves : Type 0

@@ -2,38 +2,19 @@
 #![tactic(auto)]
 
 ghost use Rattle.std.specs.Prelude.{◌≡◌};
+ghost use Rattle.refusal.specs.declared.Reason.TheVariants.{Malformed};
 ghost use Rattle.grammar.specs.MeaningReading.Reading.{rust};
 ghost use Rattle.sheet.specs.Told.{told_reading};
 ghost use Rattle.scope.specs.MeaningScope.{most_steps};
-ghost use Rattle.scope.specs.Held.{scope_of};
+ghost use Rattle.scope.specs.Held.{scope_of, path_in};
 ghost use Rattle.query.specs.MeaningQuery.{kind_for, steps_at, scope_query, path_query, resolve_query};
 ghost use Rattle.query.specs.Promises.{PromiseOrder};
-ghost use Rattle.query.specs.MirrorQuery.{tagged_of, step_in, word_in, item_in, reached_of, InQuery, past_of, moved_to, moved_past, followed_by, no_scope, asked_scope_of, no_path, asked_path_of, no_name, asked_name_of};
+ghost use Rattle.query.specs.MirrorQuery.{kind_out, step_in, word_in, reached_of, InQuery, moved_to, past_step, past_word, asked_by, name_in};
 
-use refusal::Refusal;
-use scope::{Compared, Path, Popped, Pushed, Rung, Scope, ScopeType, compare};
-use sheet::{Header, Reading, field_at, is_name};
-
-// What a tag stands for.
-#[derive(Clone, Copy)]
-enum Tagged {
-    Kind(ScopeType),
-    Other,
-}
-
-// What is read behind a scope: the step that is a path's item, or the name in a field 10.
-#[derive(Clone, Copy)]
-enum Wanted {
-    Step,
-    Word,
-}
-
-// A step or a name that stands at a place.
-#[derive(Clone, Copy)]
-enum Item {
-    Found(Rung),
-    Nothing,
-}
+use refusal::{Reason, Refusal};
+use scope::{Path, Rung, Scope, ScopeType, compare};
+use sheet::{Field, Reading, field_at, is_name};
+use std::cmp::Ordering;
 
 // The steps that stand from a place on, and the place after them.
 #[derive(Clone, Copy)]
@@ -49,145 +30,90 @@ struct Place {
     pub end: usize,
 }
 
-// The scope that a query begins with, what stands behind it, and the place after both.
-#[derive(Clone, Copy)]
-struct Followed {
-    pub scope: Scope,
-    pub next: Item,
-    pub at: usize,
-}
-
-#[derive(Clone, Copy)]
-pub enum Verdict {
-    Done,
-    Refused(Refusal),
-}
-
-#[derive(Clone, Copy)]
-pub struct AskedScope {
-    pub verdict: Verdict,
-    pub scope: Scope,
-}
-
-#[derive(Clone, Copy)]
-pub struct AskedPath {
-    pub verdict: Verdict,
-    pub path: Path,
-}
-
 // What `resolve` is asked: a scope, and where the name stands.
 #[derive(Clone, Copy)]
 pub struct AskedName {
-    pub verdict: Verdict,
     pub scope: Scope,
     pub start: usize,
     pub stop: usize,
 }
 
-impl Tagged {
-    fn of(tag: u8) -> Self
-        ensures { result ≡ tagged_of (kind_for tag) }
-    {
-        match tag {
-            0x60 => Self::Kind(ScopeType::Entity),
-            0x61 => Self::Kind(ScopeType::Alias),
-            0x62 => Self::Kind(ScopeType::Function),
-            0x63 => Self::Kind(ScopeType::Procedure),
-            0x64 => Self::Kind(ScopeType::Query),
-            0x65 => Self::Kind(ScopeType::Repeat),
-            0x66 => Self::Kind(ScopeType::Rule),
-            0x67 => Self::Kind(ScopeType::Schema),
-            0x68 => Self::Kind(ScopeType::SubType),
-            0x69 => Self::Kind(ScopeType::Type),
-            _ => Self::Other,
-        }
-    }
+// The kind that a tag stands for.
+#[tactic(auto, unfolding(crate::specs::MeaningQuery::tagged, crate::specs::MirrorQuery::kind_out))]
+fn kind_for(tag: u8) -> Option<ScopeType>
+    ensures { result ≡ kind_out (kind_for tag) }
+{
+    Some(match tag {
+        0x60 => ScopeType::Entity,
+        0x61 => ScopeType::Alias,
+        0x62 => ScopeType::Function,
+        0x63 => ScopeType::Procedure,
+        0x64 => ScopeType::Query,
+        0x65 => ScopeType::Repeat,
+        0x66 => ScopeType::Rule,
+        0x67 => ScopeType::Schema,
+        0x68 => ScopeType::SubType,
+        0x69 => ScopeType::Type,
+        _ => return None,
+    })
 }
 
-// ---- Queries. All malformed ones are refused with 15.
-
 // The step that stands at a place.
-fn step_at(q: &[u8], at: usize, end: usize) -> Item
+#[tactic(auto, using(crate::proofs::Standing::standing))]
+fn step_at(q: &[u8], at: usize, end: usize) -> Option<Rung>
     requires { InQuery q.now at end }
     ensures { result ≡ step_in q.now at }
 {
-    let Header::Field { tag, start, stop } = field_at(q, at, end) else {
-        return Item::Nothing;
-    };
-    let Tagged::Kind(kind) = Tagged::of(tag) else {
-        return Item::Nothing;
-    };
-    if is_name(&q[start..stop]) {
-        return Item::Found(Rung { kind, start, stop });
+    let field = field_at(q, at, end)?;
+    let kind = kind_for(field.tag)?;
+    if !is_name(&q[field.start..field.stop]) {
+        return None;
     }
-    Item::Nothing
+    Some(Rung {
+        kind,
+        start: field.start,
+        stop: field.stop,
+    })
 }
 
-// The field 10 that stands at a place.
-fn word_at(q: &[u8], at: usize, end: usize) -> Item
+// The field 10 that stands at a place and holds a name.
+#[tactic(auto, using(crate::proofs::Standing::standing))]
+fn word_at(q: &[u8], at: usize, end: usize) -> Option<Field>
     requires { InQuery q.now at end }
     ensures { result ≡ word_in q.now at }
 {
-    let Header::Field { tag, start, stop } = field_at(q, at, end) else {
-        return Item::Nothing;
-    };
-    if tag != 0x10 {
-        return Item::Nothing;
+    let field = field_at(q, at, end)?;
+    if field.tag != 0x10 {
+        return None;
     }
-    if is_name(&q[start..stop]) {
-        return Item::Found(Rung {
-            kind: ScopeType::Entity,
-            start,
-            stop,
-        });
+    if !is_name(&q[field.start..field.stop]) {
+        return None;
     }
-    Item::Nothing
-}
-
-// What is wanted, if it stands at a place.
-fn item_at(q: &[u8], at: usize, end: usize, wanted: Wanted) -> Item
-    requires { InQuery q.now at end }
-    ensures { result ≡ item_in wanted q.now at }
-{
-    match wanted {
-        Wanted::Step => step_at(q, at, end),
-        Wanted::Word => word_at(q, at, end),
-    }
-}
-
-// The place after what stands at `at`: the same where nothing does.
-fn past(item: Item, at: usize) -> usize
-    ensures { result ≡ past_of item at }
-{
-    let Item::Found(rung) = item else {
-        return at;
-    };
-    rung.stop
+    Some(field)
 }
 
 // The steps that stand from a place on, as many as a scope takes.
+#[tactic(auto, using(crate::proofs::Reaching::stepping))]
 fn read_steps(q: &[u8], at: usize, end: usize) -> Reached
     requires { InQuery q.now at end }
     ensures { result ≡ reached_of (steps_at most_steps q.now at) }
 {
     let mut scope = Scope::root();
     let mut from = at;
-    loop {
-        let Item::Found(step) = step_at(q, from, end) else {
-            return Reached { scope, at: from };
-        };
-        let kind = step.kind;
-        let Pushed::Onto(longer) = scope.pushed(kind, step.start, step.stop) else {
-            return Reached { scope, at: from };
+    while let Some(step) = step_at(q, from, end) {
+        let Some(longer) = scope.pushed(step) else {
+            break;
         };
         scope = longer;
         from = step.stop;
     }
+    Reached { scope, at: from }
 }
 
 // ---- Readers. The place is lent: it moves on past each accepted field, and stays where there is none.
 
 // The steps at the place, at most three.
+#[tactic(auto, unfolding(crate::specs::MirrorQuery::reached_of))]
 fn next_scope(q: &[u8], place: &mut Place) -> Scope
     requires { InQuery q.now place.old.at place.old.end }
     ensures { (result ≡ scope_of (steps_at most_steps q.now place.old.at).steps) × (place.new ≡ moved_to (steps_at most_steps q.now place.old.at).after place.old) }
@@ -197,154 +123,107 @@ fn next_scope(q: &[u8], place: &mut Place) -> Scope
     reached.scope
 }
 
-// What is wanted at the place.
-fn next_item(q: &[u8], place: &mut Place, wanted: Wanted) -> Item
+// The step at the place.
+#[tactic(auto, unfolding(crate::specs::MirrorQuery::past_of))]
+fn next_step(q: &[u8], place: &mut Place) -> Option<Rung>
     requires { InQuery q.now place.old.at place.old.end }
-    ensures { (result ≡ item_in wanted q.now place.old.at) × (place.new ≡ moved_past result place.old) }
+    ensures { (result ≡ step_in q.now place.old.at) × (place.new ≡ past_step q.now place.old) }
 {
-    let item = item_at(q, place.at, place.end, wanted);
-    place.at = past(item, place.at);
-    item
+    let step = step_at(q, place.at, place.end)?;
+    place.at = step.stop;
+    Some(step)
 }
 
-// A query from its front on: a scope, and what is wanted behind it.
-fn scope_and_item(q: &[u8], wanted: Wanted) -> Followed
-    ensures { result ≡ followed_by (item_in wanted) q.now }
+// The name at the place.
+#[tactic(auto, unfolding(crate::specs::MirrorQuery::past_of))]
+fn next_word(q: &[u8], place: &mut Place) -> Option<Field>
+    requires { InQuery q.now place.old.at place.old.end }
+    ensures { (result ≡ word_in q.now place.old.at) × (place.new ≡ past_word q.now place.old) }
 {
-    let mut place = Place {
-        at: 0,
-        end: q.len(),
-    };
-    let scope = next_scope(q, &mut place);
-    let next = next_item(q, &mut place, wanted);
-    Followed {
-        scope,
-        next,
-        at: place.at,
-    }
+    let word = word_at(q, place.at, place.end)?;
+    place.at = word.stop;
+    Some(word)
 }
 
 // ---- What queries ask for.
 
-fn scope_refused(place: usize) -> AskedScope
-    ensures { result ≡ no_scope 15 place }
+// Why a query is refused, and at which place: the first field that is wrong, or the end where one is missing.
+fn malformed(at: usize) -> Refusal
+    ensures { result ≡ record { reason = Malformed; place = at } }
 {
-    AskedScope {
-        verdict: Verdict::Refused(Refusal::at(15, place)),
-        scope: Scope::root(),
-    }
+    Refusal::at(Reason::Malformed, at)
 }
 
 // A scope query.
-pub fn read_scope(query: &[u8]) -> AskedScope
-    ensures { result ≡ asked_scope_of (scope_query query.now) }
+#[tactic(auto, unfolding(crate::specs::MeaningQuery::scope_query, crate::specs::MirrorQuery::asked_by, crate::specs::MirrorQuery::reached_of))]
+pub fn read_scope(query: &[u8]) -> Result<Scope, Refusal>
+    ensures { result ≡ asked_by scope_of (scope_query query.now) }
 {
-    let t = read_steps(query, 0, query.len());
-    if t.at == query.len() {
-        let scope = t.scope;
-        return AskedScope {
-            verdict: Verdict::Done,
-            scope,
-        };
+    let reached = read_steps(query, 0, query.len());
+    if reached.at != query.len() {
+        return Err(malformed(reached.at));
     }
-    scope_refused(t.at)
-}
-
-fn path_refused(place: usize) -> AskedPath
-    ensures { result ≡ no_path 15 place }
-{
-    let scope = Scope::root();
-    let item = Rung::none();
-    AskedPath {
-        verdict: Verdict::Refused(Refusal::at(15, place)),
-        path: Path { scope, item },
-    }
+    Ok(reached.scope)
 }
 
 // A path query: what stands behind three steps is the item, or else the last step is.
-pub fn read_path(query: &[u8]) -> AskedPath
-    ensures { result ≡ asked_path_of (path_query query.now) }
+#[tactic(auto, using(crate::proofs::Lent::place_inside, crate::proofs::Routes::routing))]
+pub fn read_path(query: &[u8]) -> Result<Path, Refusal>
+    ensures { result ≡ asked_by path_in (path_query query.now) }
 {
-    let t = scope_and_item(query, Wanted::Step);
-    let at = t.at;
-    let scope = t.scope;
-    let next = t.next;
-    if at != query.len() {
-        return path_refused(at);
-    }
-    if let Item::Found(item) = next {
-        return AskedPath {
-            verdict: Verdict::Done,
-            path: Path { scope, item },
-        };
-    }
-    let Popped::Outer(outer) = scope.popped() else {
-        return path_refused(at);
+    let mut place = Place {
+        at: 0,
+        end: query.len(),
     };
+    let scope = next_scope(query, &mut place);
+    let next = next_step(query, &mut place);
+    if place.at != place.end {
+        return Err(malformed(place.at));
+    }
+    if let Some(item) = next {
+        return Ok(Path { scope, item });
+    }
+    let outer = scope.popped().ok_or(malformed(place.at))?;
     let item = scope.last();
-    AskedPath {
-        verdict: Verdict::Done,
-        path: Path { scope: outer, item },
-    }
-}
-
-fn name_refused(place: usize) -> AskedName
-    ensures { result ≡ no_name 15 place }
-{
-    AskedName {
-        verdict: Verdict::Refused(Refusal::at(15, place)),
-        scope: Scope::root(),
-        start: 0,
-        stop: 0,
-    }
+    Ok(Path { scope: outer, item })
 }
 
 // A `resolve` query: a scope, then a name.
-pub fn read_resolve(query: &[u8]) -> AskedName
-    ensures { result ≡ asked_name_of (resolve_query query.now) }
+#[tactic(auto, using(crate::proofs::Lent::place_inside, crate::proofs::Asking::asking))]
+pub fn read_resolve(query: &[u8]) -> Result<AskedName, Refusal>
+    ensures { result ≡ asked_by name_in (resolve_query query.now) }
 {
-    let t = scope_and_item(query, Wanted::Word);
-    let at = t.at;
-    let next = t.next;
-    let Item::Found(word) = next else {
-        return name_refused(at);
+    let mut place = Place {
+        at: 0,
+        end: query.len(),
     };
-    if at == query.len() {
-        let scope = t.scope;
-        return AskedName {
-            verdict: Verdict::Done,
-            scope,
-            start: word.start,
-            stop: word.stop,
-        };
+    let scope = next_scope(query, &mut place);
+    let word = next_word(query, &mut place).ok_or(malformed(place.at))?;
+    if place.at != place.end {
+        return Err(malformed(place.at));
     }
-    name_refused(at)
+    Ok(AskedName {
+        scope,
+        start: word.start,
+        stop: word.stop,
+    })
 }
 
 // ---- The partial order.
 
 // How the scope that the left query asks for stands to the right one's.
-pub fn order(left: &[u8], right: &[u8]) -> Compared
+pub fn order(left: &[u8], right: &[u8]) -> Result<Option<Ordering>, Refusal>
     ensures { PromiseOrder rust left.now right.now result }
 {
     order_in(Reading::Rust, left, right)
 }
 
 // The same in a reading that the caller chooses.
-pub fn order_in(reading: Reading, left: &[u8], right: &[u8]) -> Compared
+#[tactic(auto, using(crate::proofs::Ordering::ordering))]
+pub fn order_in(reading: Reading, left: &[u8], right: &[u8]) -> Result<Option<Ordering>, Refusal>
     ensures { PromiseOrder (told_reading reading) left.now right.now result }
 {
-    let a = read_scope(left);
-    let first = a.verdict;
-    if let Verdict::Refused(why) = first {
-        return Compared::Refused(why);
-    }
-    let b = read_scope(right);
-    let second = b.verdict;
-    if let Verdict::Refused(why) = second {
-        return Compared::Refused(why);
-    }
-    let x = a.scope;
-    let y = b.scope;
-    compare(reading, left, x, right, y)
+    let a = read_scope(left)?;
+    let b = read_scope(right)?;
+    Ok(compare(reading, left, a, right, b))
 }

@@ -3,6 +3,7 @@ pub mod Following
 pub mod Declaring
 pub mod Seeking
 pub mod Spelling
+pub mod Known
 pub mod Meaning
 pub mod Appending
 pub mod Nodes

@@ -9,26 +9,26 @@ use lib.Dec.{eqb}
 use lib.ListN.{length, take, drop, set, length-append}
 use lib.Seq.{take_at, length-take-le}
 use Rattle.refusal.specs.MeaningAnswer.{Answer, done, refused, mapped}
+use Rattle.std.specs.Prelude.{Some, None, Result, Ok, Err}
+use Rattle.std.specs.Prelude as prelude
+use Rattle.refusal.specs.Told.{number_of, told}
 use Rattle.refusal.specs.declared.Refusal.{Refusal}
 use Rattle.grammar.specs.MeaningReading.{Reading}
 use Rattle.sheet.specs.MeaningName.{Name}
-use Rattle.sheet.specs.declared.Header.{Header}
-use Rattle.sheet.specs.declared.Header.TheVariants.{Field, Passes}
+use Rattle.sheet.specs.declared.Field.{Field}
 use Rattle.schemas.specs.MeaningTree.{tree_at}
 use Rattle.schemas.specs.MeaningSchemas.{Schema, terms_of}
 use Rattle.expression.specs.MeaningExpression.{Expr, Terms}
 use Rattle.expression.specs.MeaningExpression.Expr.{reference, andor, «and», oneof}
 use Rattle.expression.specs.MeaningExpression.Terms.{end, ◌then◌}
+use Rattle.expression.specs.MirrorKinds.{kind_of, number_of_kind}
 use Rattle.expression.specs.MirrorNodes.{flat, flats}
+use Rattle.expression.specs.declared.Kind.{Kind}
 use Rattle.expression.proofs.Spans.{patched}
+use Rattle.lookup.specs.declared.Span.{Span}
 use Rattle.declarations.specs.MirrorNamespace.{schema_scope}
-use Rattle.declarations.specs.Told.{told_found}
-use Rattle.declarations.specs.declared.Found.{Found}
-use Rattle.declarations.specs.declared.Found.TheVariants as found
 use Rattle.records.specs.MeaningResolving.{resolved_expr, resolved_terms}
-use Rattle.records.specs.MirrorRecords.{size, sizes, level, levels, number_meant, Meets, word_at, op_of, expr_in, Appends, Within, Deep, expr_numbers, terms_numbers, told_filled}
-use Rattle.records.specs.declared.Filled.{Filled}
-use Rattle.records.specs.declared.Filled.TheVariants.{To, Refused}
+use Rattle.records.specs.MirrorRecords.{size, sizes, level, levels, number_meant, Meets, word_at, op_of, expr_in, Appends, Within, Deep, expr_numbers, terms_numbers}
 use Rattle.records.proofs.Seeking.{met, met_none, terms_sought, terms_front, Tag, zeroth, first, second, third, tag_of}
 use Rattle.records.proofs.Appending.{Did, did, did_not, appends, appends_not, append_then, append_none, expr_length, terms_length, terms_first}
 
@@ -88,6 +88,13 @@ module _ (rd : Reading) (xs : List Schema) (w s : List ℕ) (t a b : ℕ) where
       by second q u = each_of «and» 2 (λ u. refl) (resolved_terms (number_meant rd xs) (schema_scope w) u)
       by third q u = each_of oneof 3 (λ u. refl) (resolved_terms (number_meant rd xs) (schema_scope w) u)
 
+-- the kind of a tag's number says that number
+kind_back : {t : ℕ} → Tag 0x50 t → number_of_kind (kind_of (t - 0x50)) ≡ t - 0x50
+kind_back zeroth = refl
+kind_back first = refl
+kind_back second = refl
+kind_back third = refl
+
 -- ---- room and depth
 
 module _ (e : Expr Name) (used depth : ℕ) (w : List ℕ) (D : Deep (size e) (2 * level e) used depth w) where
@@ -116,28 +123,27 @@ module _ (s : List ℕ) (t a b used depth : ℕ) (w₀ : List ℕ) (D : Deep (si
   inner_deep n w₁ m l = let i = inner_size in record { calls_left = omega (arith, D.calls_left); room = omega (arith, D.room); small = omega (arith, D.small) }
 
 module _ (rd : Reading) (xs : List Schema) (w s : List ℕ) (t a b used depth : ℕ) (w₀ : List ℕ) (D : Deep (size (expr_in s t a b)) (2 * level (expr_in s t a b)) used depth w₀) where
-  module _ (z : t ≡ 0x50) (r : Found) (q : told_found r ≡ number_meant rd xs (schema_scope w) (word_at s a b)) where
-    pub node_lost : (why : Refusal) → r ≡ found.Refused why → Appends (expr_numbers rd xs w (expr_in s t a b)) (told_filled (Refused why)) used w₀ w₀
-    unfolding told_filled told_found
-    node_lost why e = appends_not why.number why.place used w₀ w₀ (ref_is rd xs w s t a b z ∙ rw (← q, e) refl)
+  module _ (z : t ≡ 0x50) (i : Span) (I : i ≡ record { start = a; stop = b }) (r : Result ℕ Refusal) (q : told r ≡ number_meant rd xs (schema_scope w) (word_at s i.start i.stop)) where
+    told_here : told r ≡ number_meant rd xs (schema_scope w) (word_at s a b)
+    told_here = rw I at q
 
-    pub node_found : (k : ℕ) → r ≡ found.Number k → (n : ℕ) (w₁ : List ℕ) → n ≡ used + 3 → w₁ ≡ take used w₀ ++ ((0 ∷ k ∷ 3 ∷ []) ++ drop (used + 3) w₀)
-        → Appends (expr_numbers rd xs w (expr_in s t a b)) (told_filled (To n)) used w₀ w₁
-    unfolding told_filled told_found
+    pub node_lost : (why : Refusal) → r ≡ Err why → (k : Result ℕ Refusal) → k ≡ Err why → Appends (expr_numbers rd xs w (expr_in s t a b)) (told k) used w₀ w₀
+    node_lost why e k y = rw y (appends_not (number_of why.reason) why.place used w₀ w₀ (ref_is rd xs w s t a b z ∙ rw (← told_here, e) refl))
+
+    pub node_found : (k : ℕ) → r ≡ Ok k → (n : ℕ) (w₁ : List ℕ) → n ≡ used + 3 → w₁ ≡ take used w₀ ++ ((0 ∷ k ∷ 3 ∷ []) ++ drop (used + 3) w₀)
+        → Appends (expr_numbers rd xs w (expr_in s t a b)) (told (Ok n)) used w₀ w₁
     node_found k e n w₁ m p =
         let h : used + 3 ≤ length w₀ = node_room (expr_in s t a b) used depth w₀ D in
-        appends (0 ∷ k ∷ 3 ∷ []) (ref_is rd xs w s t a b z ∙ rw (← q, e) refl) m (rw m (put_front used w₀ w₁ 0 k 3 h p))
+        appends (0 ∷ k ∷ 3 ∷ []) (ref_is rd xs w s t a b z ∙ rw (← told_here, e) refl) m (rw m (put_front used w₀ w₁ 0 k 3 h p))
 
   module _ (z : t ≡ 0x50 → ⊥) where
-    module _ (l : 0x50 ≤ t) (h : t ≤ 0x53) (r : Filled) (body : ℕ) (w₁ w₂ : List ℕ) (A : Appends (terms_numbers rd xs w (terms_of (tree_at s a b))) (told_filled r) body w₁ w₂) where
-      pub inner_handed : (why : Refusal) → r ≡ Refused why → Appends (expr_numbers rd xs w (expr_in s t a b)) (told_filled r) used w₀ w₂
-      unfolding told_filled
-      inner_handed why e = rw e (appends_not why.number why.place used w₀ w₂ (op_is rd xs w s t a b z l h ∙ ap (mapped (noded (t - 0x50))) (did_not A why.number why.place (ap told_filled e))))
+    module _ (l : 0x50 ≤ t) (h : t ≤ 0x53) (r : Result ℕ Refusal) (body : ℕ) (w₁ w₂ : List ℕ) (A : Appends (terms_numbers rd xs w (terms_of (tree_at s a b))) (told r) body w₁ w₂) where
+      pub inner_handed : (why : Refusal) → r ≡ Err why → Appends (expr_numbers rd xs w (expr_in s t a b)) (told r) used w₀ w₂
+      inner_handed why e = rw e (appends_not (number_of why.reason) why.place used w₀ w₂ (op_is rd xs w s t a b z l h ∙ ap (mapped (noded (t - 0x50))) (did_not A (number_of why.reason) why.place (ap told e))))
 
-      module _ (n : ℕ) (e : r ≡ To n) (m : body ≡ used + 3) where
+      module _ (n : ℕ) (e : r ≡ Ok n) (m : body ≡ used + 3) where
         did_it : Did (terms_numbers rd xs w (terms_of (tree_at s a b))) body n w₁ w₂
-        unfolding told_filled
-        did_it = did A n (ap told_filled e)
+        did_it = did A n (ap told e)
 
         pub inner_less : used ≤ n
         inner_less = omega (arith, did_it.ends)
@@ -151,15 +157,17 @@ module _ (rd : Reading) (xs : List Schema) (w s : List ℕ) (t a b used depth : 
         pub inner_there : length w₂ ≡ length w₁ → length w₁ ≡ length w₀ → used + 2 < length w₂
         inner_there k j = omega (arith, node_room (expr_in s t a b) used depth w₀ D)
 
-        pub inner_made : w₁ ≡ take used w₀ ++ (((t - 0x50) ∷ 0 ∷ 0 ∷ []) ++ drop (used + 3) w₀) → Appends (expr_numbers rd xs w (expr_in s t a b)) (told_filled (To n)) used w₀ (set w₂ (used + 2) (n - used))
-        unfolding told_filled
-        inner_made p =
+        made : w₁ ≡ take used w₀ ++ (((t - 0x50) ∷ 0 ∷ 0 ∷ []) ++ drop (used + 3) w₀) → Appends (expr_numbers rd xs w (expr_in s t a b)) (told (Ok n)) used w₀ (set w₂ (used + 2) (n - used))
+        made p =
             let d = did_it in
             let g : used + 3 ≤ length w₀ = node_room (expr_in s t a b) used depth w₀ D in
             let c : n - used ≡ suc (suc (suc (length d.list))) = omega (arith, d.ends) in
             let y : take n w₂ ≡ (take used w₀ ++ ((t - 0x50) ∷ 0 ∷ 0 ∷ [])) ++ d.list = d.stands ∙ ap (λ (l : List ℕ). l ++ d.list) (ap (λ (i : ℕ). take i w₁) m ∙ put_front used w₀ w₁ (t - 0x50) 0 0 g p) in
             appends (noded (t - 0x50) d.list) (op_is rd xs w s t a b z l h ∙ ap (mapped (noded (t - 0x50))) d.is) (omega (arith, d.ends))
             (patched w₂ (take used w₀) d.list used n (t - 0x50) 0 0 (n - used) (length-take-le used w₀ (let z : used ≤ length w₀ = omega arith in z)) (omega (arith, d.ends)) y ∙ rw c refl)
+
+        pub inner_made : (k : Kind) → k ≡ kind_of (t - 0x50) → w₁ ≡ take used w₀ ++ ((number_of_kind k ∷ 0 ∷ 0 ∷ []) ++ drop (used + 3) w₀) → Appends (expr_numbers rd xs w (expr_in s t a b)) (told (Ok n)) used w₀ (set w₂ (used + 2) (n - used))
+        inner_made k j p = made (p ∙ ap (λ (i : ℕ). take used w₀ ++ ((i ∷ 0 ∷ 0 ∷ []) ++ drop (used + 3) w₀)) (ap number_of_kind j ∙ kind_back (tag_of 0x50 t l h)))
 
 pub ruleset noding = (node_room, node_calls, node_falls, node_lost, node_found, inner_deep, inner_handed, inner_less, inner_small, inner_there, inner_made)
 
@@ -175,25 +183,25 @@ pub terms_start : (rd : Reading) (xs : List Schema) (w s : List ℕ) (at e used 
     → ReadingOn rd xs w s at e used depth w₀ at used w₀
 terms_start rd xs w s at e used depth w₀ i d = record { inside = i; deep = d; long = refl; rest = λ r v a. a }
 
-module _ (rd : Reading) (xs : List Schema) (w s : List ℕ) (at e used depth : ℕ) (w₀ : List ℕ) (from n : ℕ) (w₁ : List ℕ) (f : ReadingOn rd xs w s at e used depth w₀ from n w₁) (h : Header) (m : Meets s from e 0x50 0x53 h) where
-  pub terms_none : h ≡ Passes → Appends (terms_numbers rd xs w (terms_of (tree_at s at e))) (told_filled (To n)) used w₀ w₁
-  unfolding told_filled terms_numbers resolved_terms terms_of flats
+module _ (rd : Reading) (xs : List Schema) (w s : List ℕ) (at e used depth : ℕ) (w₀ : List ℕ) (from n : ℕ) (w₁ : List ℕ) (f : ReadingOn rd xs w s at e used depth w₀ from n w₁) (h : prelude.Option Field) (m : Meets s from e 0x50 0x53 h) where
+  pub terms_none : h ≡ None → Appends (terms_numbers rd xs w (terms_of (tree_at s at e))) (told (Ok n)) used w₀ w₁
+  unfolding terms_numbers resolved_terms terms_of flats
   terms_none q =
       let z : terms_of (tree_at s from e) ≡ end = terms_sought (tree_at s from e) ∙ ap terms_of (met_none m q) in
       f.rest (done n) w₁ (rw z (append_none n w₁))
 
-  module _ (t a b : ℕ) (q : h ≡ Field t a b) where
-    parted : terms_of (tree_at s from e) ≡ expr_in s t a b then terms_of (tree_at s b e)
-    parted = let x = met m t a b q in terms_sought (tree_at s from e) ∙ ap terms_of x.seeks ∙ terms_front s a b (omega (arith, x.behind)) (tree_at s b e) t x.from x.to
+  module _ (d : Field) (q : h ≡ Some d) where
+    parted : terms_of (tree_at s from e) ≡ expr_in s d.tag d.start d.stop then terms_of (tree_at s d.stop e)
+    parted = let x = met m d q in terms_sought (tree_at s from e) ∙ ap terms_of x.seeks ∙ terms_front s d.start d.stop (omega (arith, x.behind)) (tree_at s d.stop e) d.tag x.from x.to
 
-    sized : (sizes (terms_of (tree_at s from e)) ≡ size (expr_in s t a b) + sizes (terms_of (tree_at s b e))) × (levels (terms_of (tree_at s from e)) ≡ max (level (expr_in s t a b)) (levels (terms_of (tree_at s b e))))
+    sized : (sizes (terms_of (tree_at s from e)) ≡ size (expr_in s d.tag d.start d.stop) + sizes (terms_of (tree_at s d.stop e))) × (levels (terms_of (tree_at s from e)) ≡ max (level (expr_in s d.tag d.start d.stop)) (levels (terms_of (tree_at s d.stop e))))
     unfolding sizes levels
     sized = rw parted (refl, refl)
 
-    pub term_in : Within s a b
-    term_in = let x = met m t a b q in record { short = f.inside.short; rising = x.rising; within = omega (arith, x.within, f.inside.within) }
+    pub term_in : Within s d.start d.stop
+    term_in = let x = met m d q in record { short = f.inside.short; rising = x.rising; within = omega (arith, x.within, f.inside.within) }
 
-    pub term_deep : Deep (size (expr_in s t a b)) (2 * level (expr_in s t a b)) n (depth - 1) w₁
+    pub term_deep : Deep (size (expr_in s d.tag d.start d.stop)) (2 * level (expr_in s d.tag d.start d.stop)) n (depth - 1) w₁
     term_deep = let i = sized in record { calls_left = omega (arith, f.deep.calls_left); room = omega (arith, f.deep.room); small = f.deep.small }
 
     pub term_calls : 1 ≤ depth
@@ -202,24 +210,22 @@ module _ (rd : Reading) (xs : List Schema) (w s : List ℕ) (at e used depth : �
     pub term_falls : (k : ℕ) → depth ≡ k → depth - 1 < k
     term_falls k z = omega (arith, f.deep.calls_left)
 
-    module _ (r : Filled) (w₂ : List ℕ) (A : Appends (expr_numbers rd xs w (expr_in s t a b)) (told_filled r) n w₁ w₂) where
-      pub term_handed : (why : Refusal) → r ≡ Refused why → Appends (terms_numbers rd xs w (terms_of (tree_at s at e))) (told_filled r) used w₀ w₂
-      unfolding told_filled
+    module _ (r : Result ℕ Refusal) (w₂ : List ℕ) (A : Appends (expr_numbers rd xs w (expr_in s d.tag d.start d.stop)) (told r) n w₁ w₂) where
+      pub term_handed : (why : Refusal) → r ≡ Err why → Appends (terms_numbers rd xs w (terms_of (tree_at s at e))) (told r) used w₀ w₂
       term_handed why z =
-          let k : terms_numbers rd xs w (terms_of (tree_at s from e)) ≡ refused why.number why.place = rw (parted, terms_first rd xs w (expr_in s t a b) (terms_of (tree_at s b e)), did_not A why.number why.place (ap told_filled z)) refl in
-          rw z (f.rest (refused why.number why.place) w₂ (appends_not why.number why.place n w₁ w₂ k))
+          let k : terms_numbers rd xs w (terms_of (tree_at s from e)) ≡ refused (number_of why.reason) why.place = rw (parted, terms_first rd xs w (expr_in s d.tag d.start d.stop) (terms_of (tree_at s d.stop e)), did_not A (number_of why.reason) why.place (ap told z)) refl in
+          rw z (f.rest (refused (number_of why.reason) why.place) w₂ (appends_not (number_of why.reason) why.place n w₁ w₂ k))
 
-      pub term_next : (j : ℕ) → r ≡ To j → length w₂ ≡ length w₁ → ReadingOn rd xs w s at e used depth w₀ b j w₂
-      unfolding told_filled
+      pub term_next : (j : ℕ) → r ≡ Ok j → length w₂ ≡ length w₁ → ReadingOn rd xs w s at e used depth w₀ d.stop j w₂
       term_next j z l =
-          let x = met m t a b q in
+          let x = met m d q in
           let i = sized in
-          let d = did A j (ap told_filled z) in
+          let y = did A j (ap told z) in
           record {
             inside = record { short = f.inside.short; rising = x.within; within = f.inside.within };
-            deep = record { calls_left = omega (arith, f.deep.calls_left); room = omega (arith, f.deep.room, d.ends, expr_length rd xs w (expr_in s t a b) d.list d.is); small = omega (arith, f.deep.small) };
+            deep = record { calls_left = omega (arith, f.deep.calls_left); room = omega (arith, f.deep.room, y.ends, expr_length rd xs w (expr_in s d.tag d.start d.stop) y.list y.is); small = omega (arith, f.deep.small) };
             long = l ∙ f.long;
-            rest = λ r v y. f.rest r v (rw (parted, terms_first rd xs w (expr_in s t a b) (terms_of (tree_at s b e))) (append_then _ _ r n j w₁ w₂ v d y));
+            rest = λ r v z. f.rest r v (rw (parted, terms_first rd xs w (expr_in s d.tag d.start d.stop) (terms_of (tree_at s d.stop e))) (append_then _ _ r n j w₁ w₂ v y z));
           }
 
 pub ruleset terming = (terms_start, terms_none, term_in, term_deep, term_calls, term_falls, term_handed, term_next)

@@ -7,6 +7,8 @@ use native.Mathlib.Omega.{arith}
 use lib.ListN.{length, get_or, take, set, length-append}
 use lib.Seq.{take_at, take-suc, take-take, take-set-lt, set_at, length-take-le}
 use Rattle.refusal.specs.MeaningAnswer.{Answer, done, refused, mapped, ◌>>=◌}
+use Rattle.std.specs.Prelude.{Result, Ok, Err}
+use Rattle.refusal.specs.Told.{number_of, told}
 use Rattle.refusal.specs.declared.Refusal.{Refusal}
 use Rattle.expression.specs.MeaningExpression.{Expr}
 use Rattle.expression.specs.MirrorNodes.{flat}
@@ -19,9 +21,7 @@ use Rattle.grammar.proofs.Choosing.{clash}
 use Rattle.schemas.specs.MeaningSchemas.{Schema}
 use Rattle.declarations.specs.MirrorNamespace.{schema_scope}
 use Rattle.records.specs.MeaningResolving.{resolved_expr}
-use Rattle.records.specs.MirrorRecords.{size, level, behind, number_meant, Appends, Stands, Front, Kept, Deep, Room, expr_numbers, record_kept, told_filled}
-use Rattle.records.specs.declared.Filled.{Filled}
-use Rattle.records.specs.declared.Filled.TheVariants.{To, Refused}
+use Rattle.records.specs.MirrorRecords.{size, level, behind, number_meant, Appends, Stands, Front, Kept, Deep, Room, expr_numbers, record_kept}
 use Rattle.records.proofs.Appending.{Did, did, did_not}
 use Rattle.records.proofs.Nodes.{size_some}
 
@@ -129,15 +129,15 @@ module _ (e : Expr Name) (used : ℕ) (w₀ : List ℕ) (R : Room (size e) (leve
   pub rec_there : (w₁ : List ℕ) → length w₁ ≡ length w₀ → used < length w₁
   rec_there w₁ l = omega (arith, before_end)
 
-  module _ (rd : Reading) (xs : List Schema) (w : List ℕ) (r : Filled) (w₁ : List ℕ) (A : Appends (expr_numbers rd xs w e) (told_filled r) (used + 1) w₀ w₁) (p : ℕ) where
-    pub rec_handed : (why : Refusal) → r ≡ Refused why → Kept (record_kept rd xs w p e) (told_filled r) used w₀ w₁
-    unfolding told_filled record_kept expr_numbers
+  module _ (rd : Reading) (xs : List Schema) (w : List ℕ) (r : Result ℕ Refusal) (w₁ : List ℕ) (A : Appends (expr_numbers rd xs w e) (told r) (used + 1) w₀ w₁) (p : ℕ) where
+    pub rec_handed : (why : Refusal) → r ≡ Err why → Kept (record_kept rd xs w p e) (told r) used w₀ w₁
+    unfolding record_kept expr_numbers
     rec_handed why q =
-        let o = unflat_not (resolved_expr (number_meant rd xs) (schema_scope w) e) why.number why.place (did_not A why.number why.place (ap told_filled q)) in
-        rw q (kept_refused w₁ R.front.list why.number why.place R.front.stands (rw o refl))
+        let o = unflat_not (resolved_expr (number_meant rd xs) (schema_scope w) e) (number_of why.reason) why.place (did_not A (number_of why.reason) why.place (ap told q)) in
+        rw q (kept_refused w₁ R.front.list (number_of why.reason) why.place R.front.stands (rw o refl))
 
-    pub rec_made : (n : ℕ) → r ≡ To n → Kept (record_kept rd xs w p e) (told_filled (To n)) used w₀ (set w₁ used p)
-    unfolding told_filled record_kept expr_numbers
-    rec_made n q = record_put used n p w₀ w₁ R.front before_end (resolved_expr (number_meant rd xs) (schema_scope w) e) (did A n (ap told_filled q))
+    pub rec_made : (n : ℕ) → r ≡ Ok n → Kept (record_kept rd xs w p e) (told (Ok n)) used w₀ (set w₁ used p)
+    unfolding record_kept expr_numbers
+    rec_made n q = record_put used n p w₀ w₁ R.front before_end (resolved_expr (number_meant rd xs) (schema_scope w) e) (did A n (ap told q))
 
 pub ruleset recording = (rec_deep, rec_there, rec_handed, rec_made)

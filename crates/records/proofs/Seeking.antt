@@ -3,6 +3,9 @@ use mathlib.Core.Path.{◌≡◌, refl, ap, ◌∙◌, subst}
 use mathlib.Core.List.{List, [], ◌∷◌}
 use mathlib.Core.Bool.{Bool, true, false, cond}
 use mathlib.Core.Option.{Option, none, some}
+use Rattle.std.specs.Prelude.{Some, None}
+use Rattle.std.specs.Prelude as prelude
+use mathlib.Core.Logic.{◌⊎◌, inl, inr}
 use Prim.Native.Nat.{ℕ, zero, suc, ◌+◌, ◌-◌, ◌<◌, ◌≤◌}
 use native.Mathlib.Nat.{le_refl}
 use native.Mathlib.Omega.{arith}
@@ -14,8 +17,7 @@ use Rattle.grammar.specs.MeaningReading.Reading.{rust}
 use Rattle.sheet.specs.MeaningName.{Name}
 use Rattle.grammar.specs.MeaningGrammar.{kind_of, one_of}
 use Rattle.sheet.specs.MirrorField.{field_at}
-use Rattle.sheet.specs.declared.Header.{Header}
-use Rattle.sheet.specs.declared.Header.TheVariants.{Field, Passes}
+use Rattle.sheet.specs.declared.Field.{Field}
 use Rattle.grammar.proofs.Choosing.{clash}
 use Rattle.forest.specs.MeaningPlaces.{nests}
 use Rattle.schemas.specs.MeaningTree.{Tree, tree_at}
@@ -73,72 +75,66 @@ pub record Seeking (s : List ℕ) (at e low high from : ℕ) : Type 0 where
 pub seek_start : (s : List ℕ) (at e low high : ℕ) → at ≤ e → e ≤ length s → Seeking s at e low high at
 seek_start s at e low high i j = record { began = le_refl at; inside = i; fits_in = j; rest = refl }
 
-module _ (s : List ℕ) (at e low high from : ℕ) (f : Seeking s at e low high from) (h : Header) (w : h ≡ field_at s from e) where
-  pub seek_none : h ≡ Passes → Meets s at e low high Passes
+module _ (s : List ℕ) (at e low high from : ℕ) (f : Seeking s at e low high from) (h : prelude.Option Field) (w : h ≡ field_at s from e) where
+  pub seek_none : h ≡ None → Meets s at e low high None
   unfolding seek
   seek_none q = no_more (f.rest ∙ ap (seek low high) (tree_none s from e h w q))
 
-  module _ (t a b : ℕ) (q : h ≡ Field t a b) where
-    here : tree_at s from e ≡ field_then s t a b (tree_at s b e)
-    here = tree_field s from e h w t a b q ∙ onto_field s t a b from (tree_at s b e) (field_start s from e h w t a b q)
+  module _ (d : Field) (q : h ≡ Some d) where
+    here : tree_at s from e ≡ field_then s d.tag d.start d.stop (tree_at s d.stop e)
+    here = tree_field s from e h w d q ∙ onto_field s d.tag d.start d.stop from (tree_at s d.stop e) (field_start s from e h w d q)
 
-    go_on : seek low high (tree_at s from e) ≡ seek low high (tree_at s b e) → Seeking s at e low high b
-    go_on z = record { began = omega (arith, f.began, field_on s from e h w t a b q); inside = field_in s from e h w t a b q; fits_in = f.fits_in; rest = f.rest ∙ z }
+    go_on : seek low high (tree_at s from e) ≡ seek low high (tree_at s d.stop e) → Seeking s at e low high d.stop
+    go_on z = record { began = omega (arith, f.began, field_on s from e h w d q); inside = field_in s from e h w d q; fits_in = f.fits_in; rest = f.rest ∙ z }
 
-    pub seek_less : e - b < e - from
-    seek_less = omega (arith, field_on s from e h w t a b q, field_in s from e h w t a b q)
+    pub seek_less : e - d.stop < e - from
+    seek_less = omega (arith, field_on s from e h w d q, field_in s from e h w d q)
 
-    pub seek_below : t < low → Seeking s at e low high b
-    seek_below k = go_on (ap (seek low high) here ∙ seek_low s low high t a b (tree_at s b e) k)
+    pub seek_past : ((low ≤ d.tag) × (high < d.tag)) ⊎ (d.tag < low) → Seeking s at e low high d.stop
+    seek_past (inl k) = go_on (ap (seek low high) here ∙ seek_high s low high d.tag d.start d.stop (tree_at s d.stop e) k.0 k.1)
+    seek_past (inr k) = go_on (ap (seek low high) here ∙ seek_low s low high d.tag d.start d.stop (tree_at s d.stop e) k)
 
-    pub seek_above : low ≤ t → high < t → Seeking s at e low high b
-    seek_above k l = go_on (ap (seek low high) here ∙ seek_high s low high t a b (tree_at s b e) k l)
-
-    pub seek_found : low ≤ t → t ≤ high → Meets s at e low high (Field t a b)
+    pub seek_found : low ≤ d.tag → d.tag ≤ high → Meets s at e low high (Some d)
     seek_found k l = next (record {
-      seeks = f.rest ∙ ap (seek low high) here ∙ seek_here s low high t a b (tree_at s b e) k l;
+      seeks = f.rest ∙ ap (seek low high) here ∙ seek_here s low high d.tag d.start d.stop (tree_at s d.stop e) k l;
       from = k;
       to = l;
-      behind = omega (arith, f.began, field_start s from e h w t a b q);
-      rising = field_order s from e h w t a b q;
-      within = field_in s from e h w t a b q;
+      behind = omega (arith, f.began, field_start s from e h w d q);
+      rising = field_order s from e h w d q;
+      within = field_in s from e h w d q;
     })
 
-pub ruleset seeking = (seek_start, seek_none, seek_less, seek_below, seek_above, seek_found)
+pub ruleset seeking = (seek_start, seek_none, seek_less, seek_past, seek_found)
 
 -- ---- what the field met says of what is read
 
-pub met : {s : List ℕ} {at e low high : ℕ} {h : Header} → Meets s at e low high h → (t a b : ℕ) → h ≡ Field t a b → Met s at e low high t a b
-met {s} {at} {e} {low} {high} (no_more z) t a b q = clash (cc)
-met {s} {at} {e} {low} {high} (next {t = u} {a = c} {b = d} m) t a b q =
-    let x : u ≡ t = cc in
-    let y : c ≡ a = cc in
-    let z : d ≡ b = cc in
-    subst (λ (t : ℕ). Met s at e low high t a b) x (subst (λ (a : ℕ). Met s at e low high u a b) y (subst (λ (b : ℕ). Met s at e low high u c b) z m))
+pub met : {s : List ℕ} {at e low high : ℕ} {h : prelude.Option Field} → Meets s at e low high h → (d : Field) → h ≡ Some d → Met s at e low high d.tag d.start d.stop
+met (no_more z) d q = clash (cc)
+met {s} {at} {e} {low} {high} (next {f = c} m) d q = let x : c ≡ d = cc in subst (λ (c : Field). Met s at e low high c.tag c.start c.stop) x m
 
-pub met_none : {s : List ℕ} {at e low high : ℕ} {h : Header} → Meets s at e low high h → h ≡ Passes → seek low high (tree_at s at e) ≡ nil
+pub met_none : {s : List ℕ} {at e low high : ℕ} {h : prelude.Option Field} → Meets s at e low high h → h ≡ None → seek low high (tree_at s at e) ≡ nil
 met_none (no_more z) q = z
 met_none (next m) q = clash (cc)
 
 -- where it lies
-module _ (s : List ℕ) (at e low high : ℕ) (h : Header) (m : Meets s at e low high h) (t a b : ℕ) (q : h ≡ Field t a b) where
-  pub met_from : low ≤ t
-  met_from = (met m t a b q).from
+module _ (s : List ℕ) (at e low high : ℕ) (h : prelude.Option Field) (m : Meets s at e low high h) (d : Field) (q : h ≡ Some d) where
+  pub met_from : low ≤ d.tag
+  met_from = (met m d q).from
 
-  pub met_to : t ≤ high
-  met_to = (met m t a b q).to
+  pub met_to : d.tag ≤ high
+  met_to = (met m d q).to
 
-  pub met_rising : a ≤ b
-  met_rising = (met m t a b q).rising
+  pub met_rising : d.start ≤ d.stop
+  met_rising = (met m d q).rising
 
-  pub met_in : b ≤ e
-  met_in = (met m t a b q).within
+  pub met_in : d.stop ≤ e
+  met_in = (met m d q).within
 
-  pub met_there : e ≤ length s → b ≤ length s
-  met_there l = omega (arith, (met m t a b q).within)
+  pub met_there : e ≤ length s → d.stop ≤ length s
+  met_there l = omega (arith, (met m d q).within)
 
-  pub met_less : e - b < e - at
-  met_less = let x = met m t a b q in omega (arith, x.behind, x.rising, x.within)
+  pub met_less : e - d.stop < e - at
+  met_less = let x = met m d q in omega (arith, x.behind, x.rising, x.within)
 
 pub ruleset meeting = (met_from, met_to, met_rising, met_in, met_there, met_less)
 
@@ -252,17 +248,17 @@ module _ (s : List ℕ) (a b : ℕ) (k : 3 ≤ a) (f : Tree) where
 
 -- ---- the fields with a tag, from the next one on
 
-module _ (u tag : ℕ) (n : nests u ≡ true) (q : tag ≡ u) (s : List ℕ) (from e : ℕ) (h : Header) (m : Meets s from e tag tag h) where
+module _ (u tag : ℕ) (n : nests u ≡ true) (q : tag ≡ u) (s : List ℕ) (from e : ℕ) (h : prelude.Option Field) (m : Meets s from e tag tag h) where
   sought_so : each u itself (tree_at s from e) ≡ each u itself (seek tag tag (tree_at s from e))
   sought_so = rw q (each_sought u itself (tree_at s from e))
 
-  pub fields_over : h ≡ Passes → each u itself (tree_at s from e) ≡ []
+  pub fields_over : h ≡ None → each u itself (tree_at s from e) ≡ []
   unfolding each
   fields_over z = sought_so ∙ ap (each u itself) (met_none m z)
 
-  pub fields_parted : (t a b : ℕ) → h ≡ Field t a b → each u itself (tree_at s from e) ≡ (a - 3, tree_at s a b) ∷ each u itself (tree_at s b e)
+  pub fields_parted : (d : Field) → h ≡ Some d → each u itself (tree_at s from e) ≡ (d.start - 3, tree_at s d.start d.stop) ∷ each u itself (tree_at s d.stop e)
   unfolding itself
-  fields_parted t a b z =
-      let x = met m t a b z in
-      let y : t ≡ u = omega (arith, x.from, x.to) in
-      sought_so ∙ ap (each u itself) (x.seeks ∙ ap (λ (v : ℕ). field_then s v a b (tree_at s b e)) y) ∙ each_front s a b (omega (arith, x.behind)) (tree_at s b e) u itself n
+  fields_parted d z =
+      let x = met m d z in
+      let y : d.tag ≡ u = omega (arith, x.from, x.to) in
+      sought_so ∙ ap (each u itself) (x.seeks ∙ ap (λ (v : ℕ). field_then s v d.start d.stop (tree_at s d.stop e)) y) ∙ each_front s d.start d.stop (omega (arith, x.behind)) (tree_at s d.stop e) u itself n

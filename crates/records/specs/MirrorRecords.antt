@@ -1,8 +1,8 @@
 -- How the code reads an expression from the fields of a sheet, and what it leaves in the stream.
-use Rattle.std.specs.Prelude.{ℕ, ◌+◌, ◌-◌, ◌*◌, ◌≤◌, ◌<◌, suc, max, ◌≡◌, List, [], ◌∷◌, ◌++◌, Bool, cond, eqb, ltb, length, take, drop}
+use Rattle.std.specs.Prelude.{ℕ, ◌+◌, ◌-◌, ◌*◌, ◌≤◌, ◌<◌, suc, max, ◌≡◌, List, [], ◌∷◌, ◌++◌, Bool, cond, eqb, ltb, length, take, drop, Some, None}
+use Rattle.std.specs.Prelude as prelude
 use Rattle.std.proofs.Math.Option.{Option, none, some}
 use Rattle.refusal.specs.MeaningAnswer.{Answer, done, mapped, ◌>>=◌}
-use Rattle.refusal.specs.Told.{told_refusal}
 use Rattle.expression.specs.MeaningExpression.{Expr, Terms}
 use Rattle.expression.specs.MeaningExpression.Expr.{reference, andor, «and», oneof}
 use Rattle.expression.specs.MirrorNodes.{flat, flats}
@@ -12,8 +12,7 @@ use Rattle.merging.specs.MirrorStream.{stream_of}
 use Rattle.grammar.specs.MeaningReading.{Reading}
 use Rattle.grammar.specs.MeaningReading.Reading.{rust}
 use Rattle.sheet.specs.MeaningName.{Name}
-use Rattle.sheet.specs.declared.Header.{Header}
-use Rattle.sheet.specs.declared.Header.TheVariants.{Field, Passes}
+use Rattle.sheet.specs.declared.Field.{Field}
 use Rattle.forest.specs.MeaningPlaces.{nests}
 use Rattle.scope.specs.MeaningScope.{Scope}
 use Rattle.schemas.specs.MeaningTree.{Tree, tree_at}
@@ -21,8 +20,6 @@ use Rattle.schemas.specs.MeaningTree.Tree.{nil, leaf, node}
 use Rattle.schemas.specs.MeaningSchemas.{Schema, terms_of, Entity}
 use Rattle.declarations.specs.MirrorNamespace.{word_of, schema_scope}
 use Rattle.records.specs.MeaningResolving.{resolved_expr, resolved_terms, path_for, own_path, number_for}
-use Rattle.records.specs.declared.Filled.{Filled}
-use Rattle.records.specs.declared.Filled.TheVariants.{To, Refused}
 
 -- ---- how large an expression is
 
@@ -83,9 +80,9 @@ pub record Met (s : List ℕ) (at e low high t a b : ℕ) : Type 0 where
   pub rising : a ≤ b
   pub within : b ≤ e
 
-pub data Meets (s : List ℕ) (at e low high : ℕ) : Header → Type 0 where
-  no_more : seek low high (tree_at s at e) ≡ nil → Meets s at e low high Passes
-  next : {t a b : ℕ} → Met s at e low high t a b → Meets s at e low high (Field t a b)
+pub data Meets (s : List ℕ) (at e low high : ℕ) : prelude.Option Field → Type 0 where
+  no_more : seek low high (tree_at s at e) ≡ nil → Meets s at e low high None
+  next : {f : Field} → Met s at e low high f.tag f.start f.stop → Meets s at e low high (Some f)
 
 -- ---- expressions
 
@@ -109,19 +106,15 @@ pub record Spelt (s : List ℕ) (o : Option (Expr Name)) (t a b : ℕ) : Type 0 
   pub within : b ≤ length s
 
 -- where an expression stands, if there is one
-pub data SpellsExpr (s : List ℕ) (o : Option (Expr Name)) : Header → Type 0 where
-  no_expr : o ≡ none → SpellsExpr s o Passes
-  there : {t a b : ℕ} → Spelt s o t a b → SpellsExpr s o (Field t a b)
+pub data SpellsExpr (s : List ℕ) (o : Option (Expr Name)) : prelude.Option Field → Type 0 where
+  no_expr : o ≡ none → SpellsExpr s o None
+  there : {f : Field} → Spelt s o f.tag f.start f.stop → SpellsExpr s o (Some f)
 
 -- which marks give a rule is the reading's
 unfoldable pub gives_rule : Reading → ℕ → Bool
 gives_rule rust t = eqb t 0x31
 
 -- ---- the stream
-
-unfoldable pub told_filled : Filled → Answer ℕ
-told_filled (To n) = done n
-told_filled (Refused why) = told_refusal why
 
 -- what is answered goes behind the numbers that were used
 pub record Appends (o : Answer (List ℕ)) (r : Answer ℕ) (used : ℕ) (before after : List ℕ) : Type 0 where

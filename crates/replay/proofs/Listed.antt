@@ -2,8 +2,8 @@
 use mathlib.Core.Path.{◌≡◌, refl, ◌∙◌, ap}
 use mathlib.Core.List.{List, [], ◌∷◌}
 use mathlib.Core.Bool.{Bool, true, false}
-use Prim.Native.Nat.{ℕ, ◌<◌}
-use native.Mathlib.Omega.{arith}
+use Prim.Native.Nat.{ℕ}
+use Rattle.std.specs.Prelude.{Some, None}
 use Rattle.refusal.specs.MeaningAnswer.{Answer}
 use Rattle.grammar.specs.MeaningReading.{Reading}
 use Rattle.scope.specs.MeaningScope.{Path}
@@ -28,27 +28,26 @@ pub making_first : (rd : Reading) (s names work : List ℕ) (c : Cursor) → Mak
 unfolding Since
 making_first rd s names work c = record { since = λ walked W ls q. q }
 
-module _ (rd : Reading) (s names work₀ : List ℕ) (first : Cursor) (some : Bool) (work : List ℕ) (c : Cursor) (M : Making rd s names work₀ first some work c)
-    (work' before after : List ℕ) (r : Line) (f : GivesFirst rd s names work c work' before after r) where
-  pub making_next : 0 < r.stop → Making rd s names work₀ first true work' r.next
+module _ (rd : Reading) (s names work₀ : List ℕ) (first : Cursor) (some : Bool) (work : List ℕ) (c : Cursor) (M : Making rd s names work₀ first some work c) where
+  pub making_next : (work' before after : List ℕ) (r : Line) → GivesFirst rd s names work c work' before after (Some r) → Making rd s names work₀ first true work' r.next
   unfolding Since Gives has_line
-  making_next h = record { since = λ walked W ls q. by some walked W ls (M.since walked W ls q) }
+  making_next work' before after r f = record { since = λ walked W ls q. by some walked W ls (M.since walked W ls q) }
     where
-      has : (walked : Path → Answer Bool) (ls : Lines) → Gives rd s walked names work' before after r ls → true ≡ has_line ls
-      has walked [] g = absurd (omega (arith, h, g.0))
+      has : (walked : Path → Answer Bool) (ls : Lines) → Gives rd s walked names work' before after (Some r) ls → true ≡ has_line ls
+      has walked [] g = absurd g
       has walked (l ∷ ls) g = refl
 
       by : (b : Bool) (walked : Path → Answer Bool) → AllWalked rd s walked → (ls : Lines) → Since rd s names walked b work c ls → true ≡ has_line ls
       by true walked W ls q = q
       by false walked W ls q = has walked ls (f.first walked W ls q)
 
-  pub making_over : r.stop ≡ 0 → Told rd s names work₀ first some
+  pub making_over : (work' before after : List ℕ) → GivesFirst rd s names work c work' before after None → Told rd s names work₀ first some
   unfolding Since Gives has_line
-  making_over h = record { says = λ walked W ls q. by some walked W ls (M.since walked W ls q) }
+  making_over work' before after f = record { says = λ walked W ls q. by some walked W ls (M.since walked W ls q) }
     where
-      has : (walked : Path → Answer Bool) (ls : Lines) → Gives rd s walked names work' before after r ls → false ≡ has_line ls
+      has : (walked : Path → Answer Bool) (ls : Lines) → Gives rd s walked names work' before after None ls → false ≡ has_line ls
       has walked [] g = refl
-      has walked (l ∷ ls) g = absurd (omega (arith, h, g.0))
+      has walked (l ∷ ls) g = absurd g
 
       by : (b : Bool) (walked : Path → Answer Bool) → AllWalked rd s walked → (ls : Lines) → Since rd s names walked b work c ls → b ≡ has_line ls
       by true walked W ls q = q

@@ -41,22 +41,18 @@ fn put_lines(
     let mut text = [0u8; LINE];
     let mut cursor = first;
     let mut some = false;
-    loop {
-        let line = next_line(reading, sheet, names, workspace, cursor, &mut text);
-        let stop = line.stop;
-        if stop == 0 {
-            put_end(output, some)?;
-            return Ok(some);
-        }
-        put_digits(output, &text[0..stop])?;
+    while let Some(line) = next_line(reading, sheet, names, workspace, cursor, &mut text) {
+        put_digits(output, &text[..line.stop])?;
         cursor = line.next;
         some = true;
     }
+    put_end(output, some)?;
+    Ok(some)
 }
 
 fn put_digits(output: &impl Print, bytes: &[u8]) -> io::Result<()> {
     let mut digits = [0u8; DIGITS];
-    let end = lines::hex_bytes(&mut digits, 0, bytes);
+    let end = lines::hex(&mut digits, 0, bytes);
     output.write_all(lines::front(&digits, end))
 }
 

@@ -6,7 +6,6 @@ ghost use Rattle.std.specs.Prelude.{◌≤◌, length, IfOk};
 mod listings;
 mod questions;
 
-use lines::Number;
 use std::io;
 use std::io::Read;
 
@@ -15,32 +14,14 @@ const LONGEST: usize = 300000;
 // An answer is at most so long.
 const ANSWER: usize = 8192;
 
-// Reads once; answers how many bytes came. Where reading fails, no more come.
-fn read_once<R: Read>(input: &mut R, rest: &mut [u8]) -> usize
-    ensures { result ≤ length rest.new }
-{
-    match input.read(rest) {
-        Ok(count) => count,
-        Err(_) => 0,
-    }
-}
-
-// Reads more after the bytes that are held; answers how many there are then.
-fn read_more<R: Read>(input: &mut R, text: &mut [u8], held: usize) -> usize
-    requires { held ≤ length text.old }
-    ensures { result ≤ length text.new }
-{
-    held + read_once(input, &mut text[held..])
-}
-
 // A question `listing`: its answer may be longer than any buffer here, so it is written as it is made.
 fn answer_listing(output: &impl Print, line: &[u8]) -> io::Result<()> {
     let mut bytes = [0u8; questions::SHEET];
-    let Number::Is(count) = lines::bytes(lines::word(line, 1), &mut bytes) else {
+    let Some(count) = lines::bytes(lines::word(line, 1), &mut bytes) else {
         return output.write_all(b"unknown\n");
     };
     output.write_all(b"ok ")?;
-    listings::put_listing(output, &bytes[0..count])?;
+    listings::put_listing(output, &bytes[..count])?;
     output.write_all(b"\n")
 }
 
@@ -60,17 +41,15 @@ fn answer_lines(output: &impl Print, text: &[u8]) -> io::Result<usize>
     ensures { IfOk result (λ from. from ≤ length text.now) }
 {
     let mut from = 0;
-    loop {
-        let end = lines::find(text, from, b'\n');
-        if text.len() <= end {
-            return Ok(from);
-        }
+    while let Some(count) = text[from..].iter().position(|byte| *byte == b'\n') {
+        let end = from + count;
         answer_line(output, &text[from..end])?;
         from = end + 1;
     }
+    Ok(from)
 }
 
-// Reads once, answers what is whole and keeps the rest; answers how much that is.
+// Reads once, answers what is whole and keeps the rest; answers how much that is. Where reading fails no more comes.
 fn turn<R: Read>(
     input: &mut R,
     output: &impl Print,
@@ -80,13 +59,14 @@ fn turn<R: Read>(
     requires { held ≤ length text.old }
     ensures { IfOk result (λ kept. kept ≤ length text.new) }
 {
-    let end = read_more(input, text, held);
-    if end <= held {
+    let count = input.read(&mut text[held..]).unwrap_or(0);
+    if count == 0 {
         // the input is over: a last line may lack its end
-        answer_last(output, &text[0..held])?;
+        answer_last(output, &text[..held])?;
         return Ok(text.len());
     }
-    let from = answer_lines(output, &text[0..end])?;
+    let end = held + count;
+    let from = answer_lines(output, &text[..end])?;
     Ok(lines::to_front(text, from, end))
 }
 
@@ -102,13 +82,11 @@ fn main(rt: HostRuntime) -> io::Result<()> {
     let mut input = rt.stdin();
     let mut text = [0u8; LONGEST];
     let mut held = 0;
-    let mut turns = u64::MAX;
-    while 0 < turns {
+    for _ in 0..u64::MAX {
         if LONGEST <= held {
-            return Ok(());
+            break;
         }
         held = turn(&mut input, &rt, &mut text, held)?;
-        turns -= 1;
     }
     Ok(())
 }

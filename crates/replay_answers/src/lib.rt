@@ -3,9 +3,9 @@
 
 ghost use Rattle.lines.specs.Places.{Written};
 
-use complex_entity::Order;
-use instantiables::Listed;
+use instantiables::Instantiables;
 use refusal::Refusal;
+use std::cmp::Ordering;
 
 // The longest buffer that is lent.
 pub const BUFFER: usize = 1664;
@@ -21,7 +21,7 @@ pub fn refused(out: &mut [u8], why: Refusal) -> usize
     ensures { Written 0 result out.old out.new }
 {
     let start = lines::text(out, 0, b"refused ");
-    let middle = lines::decimal(out, start, why.number as usize);
+    let middle = lines::decimal(out, start, usize::from(u8::from(why.reason)));
     let blank = lines::put(out, middle, b' ');
     lines::decimal(out, blank, why.place)
 }
@@ -33,28 +33,28 @@ pub fn number(out: &mut [u8], value: usize) -> usize
     lines::decimal(out, start, value)
 }
 
-pub fn ordered(out: &mut [u8], order: Order) -> usize
+pub fn ordered(out: &mut [u8], order: Ordering) -> usize
     ensures { Written 0 result out.old out.new }
 {
     match order {
-        Order::Less => lines::text(out, 0, b"ok -1"),
-        Order::Same => lines::text(out, 0, b"ok 0"),
-        Order::More => lines::text(out, 0, b"ok 1"),
+        Ordering::Less => lines::text(out, 0, b"ok -1"),
+        Ordering::Equal => lines::text(out, 0, b"ok 0"),
+        Ordering::Greater => lines::text(out, 0, b"ok 1"),
     }
 }
 
-pub fn listed(out: &mut [u8], told: Listed, buffer: &[u16; BUFFER]) -> usize
+pub fn listed(out: &mut [u8], list: Result<Instantiables, Refusal>, buffer: &[u16; BUFFER]) -> usize
     ensures { Written 0 result out.old out.new }
 {
-    let end = counted(out, told);
+    let end = counted(out, list);
     lines::changes(out, end, buffer)
 }
 
-fn counted(out: &mut [u8], told: Listed) -> usize
+fn counted(out: &mut [u8], list: Result<Instantiables, Refusal>) -> usize
     ensures { Written 0 result out.old out.new }
 {
-    match told {
-        Listed::Refused(why) => refused(out, why),
-        Listed::Rows(list) => number(out, list.count),
+    match list {
+        Ok(list) => number(out, list.count),
+        Err(why) => refused(out, why),
     }
 }

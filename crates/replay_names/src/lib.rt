@@ -1,15 +1,15 @@
 // The questions on a sheet, alone or with a query or an index, and on two queries.
 #![tactic(auto)]
 
+ghost use Rattle.std.specs.Prelude.{◌≡◌, MatchOption};
 ghost use Rattle.lines.specs.Places.{Written};
 
-use complex_entity::Order;
-use declarations::Found;
-use lines::Number;
 use namespace::{as_path, get, item_name, resolve, schema_name};
-use query::{Verdict, order};
+use query::order;
+use refusal::Refusal;
 use replay_answers::{number, ordered, refused, unknown};
-use sheet::{Judgement, verdict};
+use sheet::verdict;
+use std::cmp::Ordering;
 
 // A good query has at most 140 bytes, the longest that is asked 307.
 pub const QUERY: usize = 4096;
@@ -18,66 +18,76 @@ pub const QUERY: usize = 4096;
 pub fn answer(line: &[u8], out: &mut [u8], sheet: &[u8]) -> usize
     ensures { Written 0 result out.old out.new }
 {
-    let name = lines::word(line, 0);
-    if lines::is(name, b"verdict") {
-        return judged(out, verdict(sheet));
+    match asked(line, out, sheet) {
+        Some(end) => end,
+        None => unknown(out),
     }
-    if lines::among(name, b"resolve get") {
-        return of_query(line, out, sheet);
-    }
-    of_index(line, out, sheet)
 }
 
-fn of_query(line: &[u8], out: &mut [u8], sheet: &[u8]) -> usize
-    ensures { Written 0 result out.old out.new }
+// The answer, where the line is a question.
+fn asked(line: &[u8], out: &mut [u8], sheet: &[u8]) -> Option<usize>
+    ensures { MatchOption result (out.new ≡ out.old) (λ end. Written 0 end out.old out.new) }
+{
+    match lines::word(line, 0) {
+        b"verdict" => Some(judged(out, verdict(sheet))),
+        b"resolve" => of_query(line, out, sheet, resolve),
+        b"get" => of_query(line, out, sheet, get),
+        _ => of_index(line, out, sheet),
+    }
+}
+
+fn of_query<A: Fn(&[u8], &[u8]) -> Result<u16, Refusal>>(
+    line: &[u8],
+    out: &mut [u8],
+    sheet: &[u8],
+    ask: A,
+) -> Option<usize>
+    requires { A.IsAlwaysCallable ask }
+    ensures { MatchOption result (out.new ≡ out.old) (λ end. Written 0 end out.old out.new) }
 {
     let mut query = [0u8; QUERY];
-    let Number::Is(count) = lines::bytes(lines::word(line, 2), &mut query) else {
-        return unknown(out);
-    };
-    if lines::is(lines::word(line, 0), b"resolve") {
-        return found(out, resolve(sheet, &query[0..count]));
-    }
-    found(out, get(sheet, &query[0..count]))
+    let count = lines::bytes(lines::word(line, 2), &mut query)?;
+    Some(numbered(out, ask(sheet, &query[..count])))
 }
 
-fn of_index(line: &[u8], out: &mut [u8], sheet: &[u8]) -> usize
-    ensures { Written 0 result out.old out.new }
+fn of_index(line: &[u8], out: &mut [u8], sheet: &[u8]) -> Option<usize>
+    ensures { MatchOption result (out.new ≡ out.old) (λ end. Written 0 end out.old out.new) }
 {
-    let Number::Is(index) = lines::decimal_to(lines::word(line, 2), 65535) else {
-        return unknown(out);
-    };
-    let name = lines::word(line, 0);
-    if lines::is(name, b"schema_name") {
-        return part(out, schema_name(sheet, index as u16));
-    }
-    if lines::is(name, b"item_name") {
-        return part(out, item_name(sheet, index as u16));
-    }
-    cleared(out, as_path(sheet, index as u16))
+    let index = lines::decimal_to(lines::word(line, 2), 65535)? as u16;
+    Some(match lines::word(line, 0) {
+        b"schema_name" => part(out, schema_name(sheet, index)),
+        b"item_name" => part(out, item_name(sheet, index)),
+        _ => judged(out, as_path(sheet, index)),
+    })
 }
 
 // How two scopes stand to each other.
 pub fn scope_order(line: &[u8], out: &mut [u8]) -> usize
     ensures { Written 0 result out.old out.new }
 {
-    let mut first = [0u8; QUERY];
-    let mut second = [0u8; QUERY];
-    let Number::Is(left) = lines::bytes(lines::word(line, 1), &mut first) else {
-        return unknown(out);
-    };
-    let Number::Is(right) = lines::bytes(lines::word(line, 2), &mut second) else {
-        return unknown(out);
-    };
-    placed(out, order(&first[0..left], &second[0..right]))
+    match of_queries(line, out) {
+        Some(end) => end,
+        None => unknown(out),
+    }
 }
 
-pub fn found(out: &mut [u8], told: Found) -> usize
+fn of_queries(line: &[u8], out: &mut [u8]) -> Option<usize>
+    ensures { MatchOption result (out.new ≡ out.old) (λ end. Written 0 end out.old out.new) }
+{
+    let mut first = [0u8; QUERY];
+    let mut second = [0u8; QUERY];
+    let left = lines::bytes(lines::word(line, 1), &mut first)?;
+    let right = lines::bytes(lines::word(line, 2), &mut second)?;
+    Some(placed(out, order(&first[..left], &second[..right])))
+}
+
+// A number, or a flag as 0 or 1.
+pub fn numbered<T: Into<usize> + Copy>(out: &mut [u8], told: Result<T, Refusal>) -> usize
     ensures { Written 0 result out.old out.new }
 {
     match told {
-        Found::Refused(why) => refused(out, why),
-        Found::Number(index) => number(out, index as usize),
+        Ok(value) => number(out, value.into()),
+        Err(why) => refused(out, why),
     }
 }
 
@@ -86,36 +96,25 @@ fn part(out: &mut [u8], bytes: &[u8]) -> usize
     ensures { Written 0 result out.old out.new }
 {
     let start = lines::text(out, 0, b"ok ");
-    lines::hex_bytes(out, start, bytes)
+    lines::hex(out, start, bytes)
 }
 
-fn judged(out: &mut [u8], told: Judgement) -> usize
+fn judged(out: &mut [u8], told: Result<(), Refusal>) -> usize
     ensures { Written 0 result out.old out.new }
 {
     match told {
-        Judgement::Refused(why) => refused(out, why),
-        Judgement::Accepted => lines::text(out, 0, b"ok"),
-    }
-}
-
-fn cleared(out: &mut [u8], told: Verdict) -> usize
-    ensures { Written 0 result out.old out.new }
-{
-    match told {
-        Verdict::Refused(why) => refused(out, why),
-        Verdict::Done => lines::text(out, 0, b"ok"),
+        Ok(()) => lines::text(out, 0, b"ok"),
+        Err(why) => refused(out, why),
     }
 }
 
 // Scopes may be unordered.
-fn placed(out: &mut [u8], told: scope::Compared) -> usize
+fn placed(out: &mut [u8], told: Result<Option<Ordering>, Refusal>) -> usize
     ensures { Written 0 result out.old out.new }
 {
     match told {
-        scope::Compared::Refused(why) => refused(out, why),
-        scope::Compared::Less => ordered(out, Order::Less),
-        scope::Compared::Equal => ordered(out, Order::Same),
-        scope::Compared::Greater => ordered(out, Order::More),
-        scope::Compared::Unordered => lines::text(out, 0, b"ok none"),
+        Ok(Some(order)) => ordered(out, order),
+        Ok(None) => lines::text(out, 0, b"ok none"),
+        Err(why) => refused(out, why),
     }
 }

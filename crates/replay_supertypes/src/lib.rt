@@ -1,14 +1,12 @@
 // The questions on a sheet with a workspace: supertypes, their lists and the sets in these, types.
 #![tactic(auto)]
 
-ghost use Rattle.std.specs.Prelude.{◌≤◌};
+ghost use Rattle.std.specs.Prelude.{◌≡◌, ◌≤◌, MatchOption};
 ghost use Rattle.lines.specs.Places.{Written};
 
-use constraints::{Decision, is_supertype, list, number_of, row_at, supertype_at};
-use expression::Numbered;
-use lines::Number;
-use replay_answers::{BUFFER, listed, number, refused, unknown};
-use replay_names::{QUERY, found};
+use constraints::{is_supertype, list, number_of, row_at, supertype_at};
+use replay_answers::{BUFFER, listed, refused, unknown};
+use replay_names::{QUERY, numbered};
 use type_ref::{TypeRef, from_path};
 
 // The longest workspace that is lent.
@@ -23,80 +21,96 @@ pub fn answer(line: &[u8], out: &mut [u8], sheet: &[u8]) -> usize
 {
     let mut workspace = [0u16; WORKSPACE];
     let word = workspace_word(lines::word(line, 0));
-    let Number::Is(size) = lines::lend(lines::word(line, word), &mut workspace) else {
+    let Some(size) = lines::lend(lines::word(line, word), &mut workspace) else {
         return unknown(out);
     };
-    with_workspace(line, out, sheet, &mut workspace[0..size])
-}
-
-// The answer, then how the workspace was given back.
-fn with_workspace(line: &[u8], out: &mut [u8], sheet: &[u8], workspace: &mut [u16]) -> usize
-    ensures { Written 0 result out.old out.new }
-{
-    let end = asked(line, out, sheet, workspace);
-    lines::state(out, end, workspace)
+    with_workspace(line, out, sheet, &mut workspace[..size])
 }
 
 // Which of the line's words is the workspace's length.
 fn workspace_word(name: &[u8]) -> usize
     ensures { (3 ≤ result) × (result ≤ 4) }
 {
-    if lines::among(name, b"number_of set_at") {
-        return 4;
+    match name {
+        b"number_of" | b"set_at" => 4,
+        _ => 3,
     }
-    3
 }
 
-fn asked(line: &[u8], out: &mut [u8], sheet: &[u8], workspace: &mut [u16]) -> usize
+// The answer, then how the workspace was given back.
+fn with_workspace(line: &[u8], out: &mut [u8], sheet: &[u8], workspace: &mut [u16]) -> usize
     ensures { Written 0 result out.old out.new }
 {
-    if lines::is(lines::word(line, 0), b"supertype") {
-        return supertype(line, out, sheet, workspace);
+    let end = answered(line, out, sheet, workspace);
+    lines::state(out, end, workspace)
+}
+
+fn answered(line: &[u8], out: &mut [u8], sheet: &[u8], workspace: &mut [u16]) -> usize
+    ensures { Written 0 result out.old out.new }
+{
+    match asked(line, out, sheet, workspace) {
+        Some(end) => end,
+        None => unknown(out),
     }
+}
+
+// The answer, where the line is a question.
+fn asked(line: &[u8], out: &mut [u8], sheet: &[u8], workspace: &mut [u16]) -> Option<usize>
+    ensures { MatchOption result (out.new ≡ out.old) (λ end. Written 0 end out.old out.new) }
+{
+    match lines::word(line, 0) {
+        b"supertype" => supertype(line, out, sheet, workspace),
+        _ => of_query(line, out, sheet, workspace),
+    }
+}
+
+fn supertype(line: &[u8], out: &mut [u8], sheet: &[u8], workspace: &mut [u16]) -> Option<usize>
+    ensures { MatchOption result (out.new ≡ out.old) (λ end. Written 0 end out.old out.new) }
+{
+    let place = lines::decimal_of(lines::word(line, 2))?;
+    Some(numbered(out, supertype_at(sheet, place, workspace)))
+}
+
+fn of_query(line: &[u8], out: &mut [u8], sheet: &[u8], workspace: &mut [u16]) -> Option<usize>
+    ensures { MatchOption result (out.new ≡ out.old) (λ end. Written 0 end out.old out.new) }
+{
     let mut query = [0u8; QUERY];
-    let Number::Is(count) = lines::bytes(lines::word(line, 2), &mut query) else {
-        return unknown(out);
-    };
-    of_path(line, out, sheet, &query[0..count], workspace)
-}
-
-fn supertype(line: &[u8], out: &mut [u8], sheet: &[u8], workspace: &mut [u16]) -> usize
-    ensures { Written 0 result out.old out.new }
-{
-    let Number::Is(place) = lines::decimal_of(lines::word(line, 2)) else {
-        return unknown(out);
-    };
-    found(out, supertype_at(sheet, place, workspace))
+    let count = lines::bytes(lines::word(line, 2), &mut query)?;
+    of_path(line, out, sheet, &query[..count], workspace)
 }
 
 // A query as it was read.
-fn of_path(line: &[u8], out: &mut [u8], sheet: &[u8], query: &[u8], workspace: &mut [u16]) -> usize
-    ensures { Written 0 result out.old out.new }
+fn of_path(
+    line: &[u8],
+    out: &mut [u8],
+    sheet: &[u8],
+    query: &[u8],
+    workspace: &mut [u16],
+) -> Option<usize>
+    ensures { MatchOption result (out.new ≡ out.old) (λ end. Written 0 end out.old out.new) }
 {
-    let name = lines::word(line, 0);
-    if lines::is(name, b"is_supertype") {
-        return decided(out, is_supertype(sheet, query, workspace));
+    match lines::word(line, 0) {
+        b"is_supertype" => Some(numbered(out, is_supertype(sheet, query, workspace))),
+        b"from_path" => Some(typed(out, from_path(sheet, query, workspace))),
+        b"number_of" => of_row(line, out, sheet, query, workspace),
+        b"set_at" => of_number(line, out, sheet, query, workspace),
+        _ => all_rows(line, out, sheet, query, workspace),
     }
-    if lines::is(name, b"from_path") {
-        return typed(out, from_path(sheet, query, workspace));
-    }
-    if lines::is(name, b"number_of") {
-        return of_row(line, out, sheet, query, workspace);
-    }
-    if lines::is(name, b"set_at") {
-        return of_number(line, out, sheet, query, workspace);
-    }
-    all_rows(line, out, sheet, query, workspace)
 }
 
-fn of_row(line: &[u8], out: &mut [u8], sheet: &[u8], query: &[u8], workspace: &mut [u16]) -> usize
-    ensures { Written 0 result out.old out.new }
+fn of_row(
+    line: &[u8],
+    out: &mut [u8],
+    sheet: &[u8],
+    query: &[u8],
+    workspace: &mut [u16],
+) -> Option<usize>
+    ensures { MatchOption result (out.new ≡ out.old) (λ end. Written 0 end out.old out.new) }
 {
     let mut row = [0u16; ROW];
-    let Number::Is(count) = lines::numbers(lines::word(line, 3), &mut row) else {
-        return unknown(out);
-    };
-    numbered(out, number_of(sheet, query, &row[0..count], workspace))
+    let count = lines::numbers(lines::word(line, 3), &mut row)?;
+    let told = number_of(sheet, query, &row[..count], workspace);
+    Some(numbered(out, told))
 }
 
 fn of_number(
@@ -105,48 +119,29 @@ fn of_number(
     sheet: &[u8],
     query: &[u8],
     workspace: &mut [u16],
-) -> usize
-    ensures { Written 0 result out.old out.new }
+) -> Option<usize>
+    ensures { MatchOption result (out.new ≡ out.old) (λ end. Written 0 end out.old out.new) }
 {
     let mut buffer = [0u16; BUFFER];
-    let Number::Is(number) = lines::decimal_of(lines::word(line, 3)) else {
-        return unknown(out);
-    };
-    let Number::Is(size) = lines::lend(lines::word(line, 5), &mut buffer) else {
-        return unknown(out);
-    };
-    let told = row_at(sheet, query, number, workspace, &mut buffer[0..size]);
-    listed(out, told, &buffer)
+    let number = lines::decimal_of(lines::word(line, 3))?;
+    let size = lines::lend(lines::word(line, 5), &mut buffer)?;
+    let told = row_at(sheet, query, number, workspace, &mut buffer[..size]);
+    Some(listed(out, told, &buffer))
 }
 
-fn all_rows(line: &[u8], out: &mut [u8], sheet: &[u8], query: &[u8], workspace: &mut [u16]) -> usize
-    ensures { Written 0 result out.old out.new }
+fn all_rows(
+    line: &[u8],
+    out: &mut [u8],
+    sheet: &[u8],
+    query: &[u8],
+    workspace: &mut [u16],
+) -> Option<usize>
+    ensures { MatchOption result (out.new ≡ out.old) (λ end. Written 0 end out.old out.new) }
 {
     let mut buffer = [0u16; BUFFER];
-    let Number::Is(size) = lines::lend(lines::word(line, 4), &mut buffer) else {
-        return unknown(out);
-    };
-    let told = list(sheet, query, workspace, &mut buffer[0..size]);
-    listed(out, told, &buffer)
-}
-
-fn decided(out: &mut [u8], told: Decision) -> usize
-    ensures { Written 0 result out.old out.new }
-{
-    match told {
-        Decision::Refused(why) => refused(out, why),
-        Decision::Yes => lines::text(out, 0, b"ok 1"),
-        Decision::No => lines::text(out, 0, b"ok 0"),
-    }
-}
-
-fn numbered(out: &mut [u8], told: Numbered) -> usize
-    ensures { Written 0 result out.old out.new }
-{
-    match told {
-        Numbered::Refused(why) => refused(out, why),
-        Numbered::Number(place) => number(out, place),
-    }
+    let size = lines::lend(lines::word(line, 4), &mut buffer)?;
+    let told = list(sheet, query, workspace, &mut buffer[..size]);
+    Some(listed(out, told, &buffer))
 }
 
 fn typed(out: &mut [u8], told: TypeRef) -> usize
@@ -169,8 +164,5 @@ fn typed(out: &mut [u8], told: TypeRef) -> usize
 fn flag(out: &mut [u8], at: usize, is_so: bool) -> usize
     ensures { Written at result out.old out.new }
 {
-    if is_so {
-        return lines::text(out, at, b" 1");
-    }
-    lines::text(out, at, b" 0")
+    lines::text(out, at, if is_so { b" 1" } else { b" 0" })
 }

@@ -5,21 +5,17 @@ use mathlib.Core.List.{List, [], ◌∷◌, ◌++◌}
 use native.Mathlib.Omega.{arith}
 use native.Mathlib.Numerals.{add-one}
 use native.Mathlib.Nat.{zero-add, add-zero}
-use mir.Syntax.{w64}
-use mir.Val.{Fits}
-use borrow.Author.Rules.{Fits-under}
 use lib.ListN.{length, get_or, take, drop, take-append-drop}
 use lib.Seq.{slice, slice-cons, slice_empty, length-slice, take-length, drop-append-le, take-take, length-take-le}
+use Rattle.std.specs.Prelude.{Result, Ok, Err}
+use Rattle.std.specs.declared.cmp.Ordering.{Ordering as Answered}
+use Rattle.std.specs.declared.cmp.Ordering.TheVariants.{Less, Equal, Greater}
 use Rattle.complex_entity.specs.MeaningRising.{here, Lt, View, less, same, more, Rising, empty, next}
 use Rattle.complex_entity.specs.MeaningParts.{Part, order}
 use Rattle.complex_entity.specs.MirrorParts.{part_at}
 use Rattle.complex_entity.specs.Told.{told_order}
-use Rattle.complex_entity.specs.declared.Order.{Order}
-use Rattle.complex_entity.specs.declared.Order.TheVariants.{Less, Same, More}
 use Rattle.complex_entity.proofs.Orders.{part_order}
 use Rattle.complex_entity.proofs.Members.{∈_append_left, ∈_append_right}
-use Rattle.rows.specs.declared.Spot.{Spot}
-use Rattle.rows.specs.declared.Spot.TheVariants.{Found, Gap}
 use Rattle.rows.specs.MirrorRows.{parts_at, Stands}
 use Rattle.rows.specs.MirrorLists.{further, place_of}
 use Rattle.rows.proofs.Flats.{parts_length, parts_at_law}
@@ -66,13 +62,13 @@ rising_after a q b r = go (rising_right a (q ∷ b) r)
     go (next B R) = R
 
 -- ---- places moved up
-further_zero : (s : Spot) → further 0 s ≡ s
-further_zero (Found i) = ap (λ (j : ℕ). Found j) (zero-add i)
-further_zero (Gap i) = ap (λ (j : ℕ). Gap j) (zero-add i)
+further_zero : (s : Result ℕ ℕ) → further 0 s ≡ s
+further_zero (Ok i) = ap (λ (j : ℕ). Ok j) (zero-add i)
+further_zero (Err i) = ap (λ (j : ℕ). Err j) (zero-add i)
 
-further_further : (k m : ℕ) (s : Spot) → further k (further m s) ≡ further (k + m) s
-further_further k m (Found i) = ap (λ (j : ℕ). Found j) (omega arith)
-further_further k m (Gap i) = ap (λ (j : ℕ). Gap j) (omega arith)
+further_further : (k m : ℕ) (s : Result ℕ ℕ) → further k (further m s) ≡ further (k + m) s
+further_further k m (Ok i) = ap (λ (j : ℕ). Ok j) (omega arith)
+further_further k m (Err i) = ap (λ (j : ℕ). Err j) (omega arith)
 
 -- ---- the place in a list that is split at q
 module _ (p q : Part) (b : List Part) where
@@ -81,7 +77,7 @@ module _ (p q : Part) (b : List Part) where
   place_less [] e = rw e
   place_less (x ∷ a) e = rw (place_less a e)
 
-  place_same : (a : List Part) → order p q ≡ Ordering.eq → Rising order (a ++ q ∷ b) → place_of (a ++ q ∷ b) p ≡ Found (length a)
+  place_same : (a : List Part) → order p q ≡ Ordering.eq → Rising order (a ++ q ∷ b) → place_of (a ++ q ∷ b) p ≡ Ok (length a)
   unfolding place_of
   place_same [] e r = rw e
   place_same (x ∷ a) e (next B R) =
@@ -106,7 +102,7 @@ slice_split lo mid hi l d h k n =
     ∙ ap (λ (x : List Part). slice lo mid l ++ x) (slice-cons mid hi l d k n)
 
 -- ---- the loop: the place is among the rows from lo up to hi
-pub record Placing (rows : List ℕ) (count : ℕ) (p : Part) (lo hi : ℕ) (r : Spot) : Type 0 where
+pub record Placing (rows : List ℕ) (count : ℕ) (p : Part) (lo hi : ℕ) (r : Result ℕ ℕ) : Type 0 where
   pub low : lo ≤ hi
   pub high : hi ≤ count
   pub stands : Stands rows count
@@ -125,13 +121,13 @@ place_start rows count p h =
       whole = rw e (further_zero _);
     }
 
-module _ (rows : List ℕ) (count : ℕ) (p : Part) (lo hi : ℕ) (r : Spot) (f : Placing rows count p lo hi r) where
-  pub place_done : hi ≤ lo → Gap lo ≡ r
+module _ (rows : List ℕ) (count : ℕ) (p : Part) (lo hi : ℕ) (r : Result ℕ ℕ) (f : Placing rows count p lo hi r) where
+  pub place_done : hi ≤ lo → Err lo ≡ r
   unfolding place_of
   place_done h =
       let e : lo ≡ hi = omega (arith, f.low) in
       let s : slice lo hi (parts_at count rows) ≡ [] = ap (λ (k : ℕ). slice k hi (parts_at count rows)) e ∙ slice_empty hi (parts_at count rows) in
-      sym (ap (λ (x : List Part). further lo (place_of x p)) s ∙ ap (λ (k : ℕ). Gap k) (add-zero lo)) ∙ f.whole
+      sym (ap (λ (x : List Part). further lo (place_of x p)) s ∙ ap (λ (k : ℕ). Err k) (add-zero lo)) ∙ f.whole
 
   module _ (h : lo < hi) where
     abbrev mid : ℕ
@@ -157,17 +153,14 @@ module _ (rows : List ℕ) (count : ℕ) (p : Part) (lo hi : ℕ) (r : Spot) (f 
     unfolding left
     left_length = let n = length-slice lo mid (parts_at count rows) (rw (parts_length count rows) (omega (arith, f.high))) in omega (arith, n)
 
-    pub place_mul : Fits w64 (13 * (lo + (hi - lo) / 2))
-    place_mul = Fits-under w64 (13 * (lo + (hi - lo) / 2)) 2000 (omega (arith, f.high, f.stands.small)) tt
-
     pub place_inside : 13 * (lo + (hi - lo) / 2) + 13 ≤ length rows
     place_inside = omega (arith, f.high, f.stands.small, f.stands.room)
 
-    module _ (o : Order) (e : told_order o ≡ order p (part_at (drop (13 * (lo + (hi - lo) / 2)) rows))) where
-      pub place_found : o ≡ Same → Found (lo + (hi - lo) / 2) ≡ r
+    module _ (o : Answered) (e : told_order o ≡ order p (part_at (drop (13 * (lo + (hi - lo) / 2)) rows))) where
+      pub place_found : o ≡ Equal → Ok (lo + (hi - lo) / 2) ≡ r
       place_found g =
           sym (ap (λ (x : List Part). further lo (place_of x p)) split ∙ ap (further lo) (place_same p _ right left (sym e ∙ ap told_order g) rising)
-          ∙ ap (λ (k : ℕ). Found k) left_length) ∙ f.whole
+          ∙ ap (λ (k : ℕ). Ok k) left_length) ∙ f.whole
 
       pub place_lower : o ≡ Less → Placing rows count p lo (lo + (hi - lo) / 2) r
       unfolding left
@@ -181,7 +174,7 @@ module _ (rows : List ℕ) (count : ℕ) (p : Part) (lo hi : ℕ) (r : Spot) (f 
                 sym (ap (λ (x : List Part). further lo (place_of x p)) split ∙ ap (further lo) (place_less p _ right left (sym e ∙ ap told_order g))) ∙ f.whole;
           }
 
-      pub place_upper : o ≡ More → Placing rows count p (lo + (hi - lo) / 2 + 1) hi r
+      pub place_upper : o ≡ Greater → Placing rows count p (lo + (hi - lo) / 2 + 1) hi r
       unfolding right
       place_upper g =
           let n : lo + suc (length left) ≡ suc mid = omega (arith, left_length) in
@@ -196,12 +189,12 @@ module _ (rows : List ℕ) (count : ℕ) (p : Part) (lo hi : ℕ) (r : Spot) (f 
                 ∙ further_further lo (suc (length left)) (place_of right p) ∙ ap (λ (k : ℕ). further k (place_of right p)) n) ∙ f.whole;
           })
 
-pub ruleset placing = (place_start, place_done, place_mul, place_inside, place_found, place_lower, place_upper)
+pub ruleset placing = (place_start, place_done, place_inside, place_found, place_lower, place_upper)
 
 -- ---- the last row, looked at first
-pub last_none : (rows : List ℕ) (count : ℕ) (p : Part) → count ≤ 0 → Gap 0 ≡ place_of (parts_at count rows) p
+pub last_none : (rows : List ℕ) (count : ℕ) (p : Part) → count ≡ 0 → Err 0 ≡ place_of (parts_at count rows) p
 unfolding parts_at place_of
-last_none rows count p h = let e : count ≡ 0 = omega arith in sym (ap (λ (k : ℕ). place_of (parts_at k rows) p) e)
+last_none rows count p h = sym (ap (λ (k : ℕ). place_of (parts_at k rows) p) h)
 
 module _ (rows : List ℕ) (count : ℕ) (p : Part) (h : 0 < count) (s : Stands rows count) where
   before_last : List Part
@@ -225,21 +218,18 @@ module _ (rows : List ℕ) (count : ℕ) (p : Part) (h : 0 < count) (s : Stands 
   unfolding before_last
   last_length = length-take-le (count - 1) (parts_at count rows) (omega (arith, parts_length count rows))
 
-  pub last_mul : Fits w64 (13 * (count - 1))
-  last_mul = Fits-under w64 (13 * (count - 1)) 2000 (omega (arith, s.small)) tt
-
   pub last_inside : 13 * (count - 1) + 13 ≤ length rows
   last_inside = omega (arith, s.small, s.room)
 
-  module _ (o : Order) (e : told_order o ≡ order p (part_at (drop (13 * (count - 1)) rows))) where
-    pub last_same : o ≡ Same → Found (count - 1) ≡ place_of (parts_at count rows) p
+  module _ (o : Answered) (e : told_order o ≡ order p (part_at (drop (13 * (count - 1)) rows))) where
+    pub last_same : o ≡ Equal → Ok (count - 1) ≡ place_of (parts_at count rows) p
     last_same g =
-        sym (ap (λ (x : List Part). place_of x p) last_split ∙ place_same p _ [] before_last (sym e ∙ ap told_order g) last_rising ∙ ap (λ (j : ℕ). Found j) last_length)
+        sym (ap (λ (x : List Part). place_of x p) last_split ∙ place_same p _ [] before_last (sym e ∙ ap told_order g) last_rising ∙ ap (λ (j : ℕ). Ok j) last_length)
 
-    pub last_more : o ≡ More → Gap count ≡ place_of (parts_at count rows) p
+    pub last_more : o ≡ Greater → Err count ≡ place_of (parts_at count rows) p
     unfolding place_of
     last_more g =
         let n : suc (length before_last) + 0 ≡ count = omega (arith, last_length) in
-        sym (ap (λ (x : List Part). place_of x p) last_split ∙ place_more p _ [] before_last (sym e ∙ ap told_order g) last_rising ∙ ap (λ (j : ℕ). Gap j) n)
+        sym (ap (λ (x : List Part). place_of x p) last_split ∙ place_more p _ [] before_last (sym e ∙ ap told_order g) last_rising ∙ ap (λ (j : ℕ). Err j) n)
 
-pub ruleset lasting = (last_none, last_mul, last_inside, last_same, last_more)
+pub ruleset lasting = (last_none, last_inside, last_same, last_more)

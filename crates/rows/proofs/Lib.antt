@@ -1,6 +1,5 @@
 pub mod Shifts
 pub mod Flats
-pub mod Equals
 pub mod Halving
 pub mod Unions
 pub mod Counts

@@ -1,26 +1,27 @@
 -- Two sorted lists made one in place, from the last rows on: the loop of `merge`.
-use Prim.Native.Nat.{Ordering}
-use Prim.Native.Nat.{ℕ, zero, suc, ◌+◌, ◌-◌, ◌*◌, ◌≤◌, ◌<◌}
-use mathlib.Core.Path.{◌≡◌, refl, sym, ap, ◌∙◌}
+use Prim.Native.Nat as nat
+use Prim.Native.Nat.{ℕ, suc, ◌+◌, ◌-◌, ◌*◌, ◌≤◌, ◌<◌}
+use mathlib.Core.Path.{◌≡◌, refl, sym, ap, ◌∙◌, subst}
+use mathlib.Core.Logic.{◌⊎◌, inl, inr}
 use mathlib.Core.List.{List, [], ◌∷◌, ◌++◌, append_assoc, append-nil, flat_map}
 use native.Mathlib.Omega.{arith}
 use native.Mathlib.Numerals.{add-one}
 use lib.ListN.{length, get_or, take, drop, length-append, length-take, take-append-drop}
 use lib.Seq.{paste, length-paste, take_at, drop_at, drop-cons, take-take, take-append-le, length-take-le, append_snoc}
-use mir.Syntax.{w64}
-use mir.Val.{Fits}
-use borrow.Author.Rules.{Fits-under}
+use Rattle.std.specs.declared.cmp.Ordering.{Ordering}
+use Rattle.std.specs.declared.cmp.Ordering.TheVariants.{Less, Equal, Greater}
 use Rattle.complex_entity.specs.MeaningParts.{Part, order}
 use Rattle.complex_entity.specs.MeaningLists.{add}
 use Rattle.complex_entity.specs.MeaningRows.{row_of, flat}
 use Rattle.complex_entity.specs.MirrorParts.{by, part_at}
+use Rattle.complex_entity.specs.Told.{told_order}
 use Rattle.complex_entity.proofs.Rows.{part_at_few, row_long}
 use Rattle.rows.specs.MirrorRows.{parts_at, Stands, Put}
-use Rattle.rows.specs.MirrorUnions.{told_step, Compared}
+use Rattle.rows.specs.MirrorUnions.{Compared}
 use Rattle.rows.proofs.Flats.{parts_length, parts_narrow, parts_at_law, flat_cons, flat_append, flat_take, flat_drop}
 use Rattle.rows.proofs.Shifts.{row_slice}
 use native.Mathlib.Nat.{pos_of_ne-zero}
-use Rattle.rows.proofs.Unions.{Backing, united, back_start, back_left, back_right, back_both, united_all, united_left, united_wider, united_longer, united_none, united_less, united_same, united_more, first_length}
+use Rattle.rows.proofs.Unions.{Backing, united, back_start, back_left, back_right, back_both, united_all, united_left, united_right, united_wider, united_longer, united_less, united_same, united_more, first_length}
 
 -- ---- a row of a list that stands
 module _ (rows : List ℕ) (count : ℕ) (s : Stands rows count) (i : ℕ) (h : i < count) where
@@ -39,13 +40,6 @@ module _ (rows : List ℕ) (count : ℕ) (s : Stands rows count) (i : ℕ) (h : 
       ∙ row_slice (take (13 * count) rows) (13 * i) (omega (arith, length-take-le (13 * count) rows (omega (arith, s.room, s.small))))
       ∙ ap (take 13) a
       ∙ take_at (row_of p) (flat (drop (suc i) P)) 13 (row_long p (part_at_few (drop (13 * i) rows)))
-
--- a step that is neither 0 nor 1
-told_more : (s : ℕ) → (s ≡ 0 → ⊥) → (s ≡ 1 → ⊥) → told_step s ≡ Ordering.gt
-unfolding told_step
-told_more zero x y = absurd (x refl)
-told_more (suc zero) x y = absurd (y refl)
-told_more (suc (suc s)) x y = refl
 
 -- ---- n rows and m are left; `done` are the last parts, and they stand where they belong, from the row with number `to` on
 pub record Merged (rows₀ others rows : List ℕ) (count other total n m to : ℕ) : Type 0 where
@@ -78,19 +72,37 @@ merged_start rows others count other total s t e h =
     }
 
 module _ (rows₀ others rows : List ℕ) (count other total n m to : ℕ) (f : Merged rows₀ others rows count other total n m to) where
+  -- L's first rows stand at the front of `before`, and are all that is still to come
+  merged_by : (L : List Part) (before after : List ℕ) (j : ℕ) → united rows₀ others count other n m ≡ L → length L ≡ j → j ≡ to → take (13 * j) before ≡ flat L
+      → after ≡ take (13 * j) before ++ drop (13 * j) rows → Put (add (parts_at count rows₀) (parts_at other others)) rows₀ after
+  merged_by L before after j u n e a w =
+      let w' : flat (add (parts_at count rows₀) (parts_at other others)) ≡ flat L ++ flat f.done =
+      ap flat (sym f.whole ∙ ap (λ (t : List Part). t ++ f.done) u) ∙ flat_append L f.done in
+      let b : drop (13 * j) rows ≡ flat f.done ++ drop (13 * total) rows₀ = ap (λ (j : ℕ). drop (13 * j) rows) e ∙ f.past in
+      w ∙ rw (a, b, w', f.all) (sym (append_assoc (flat L) (flat f.done) (drop (13 * total) rows₀)))
+
+  -- no row is left of the other list, or of this one
   merged_done : m ≤ 0 → Put (add (parts_at count rows₀) (parts_at other others)) rows₀ rows
   merged_done h =
       let P : List Part = parts_at count rows₀ in
       let s : Stands rows₀ count = f.back.left in
       let u : united rows₀ others count other n m ≡ take n P = united_left rows₀ others count other n m f.back h in
-      let e : n ≡ to = sym (first_length rows₀ count s n f.back.few_left) ∙ ap length (sym u) ∙ f.size in
-      let w : flat (add P (parts_at other others)) ≡ flat (take n P) ++ flat f.done =
-      ap flat (sym f.whole ∙ ap (λ (t : List Part). t ++ f.done) u) ∙ flat_append (take n P) f.done in
-      let a : take (13 * n) rows ≡ flat (take n P) =
-      f.front ∙ sym (take-take (13 * n) (13 * count) rows₀ (omega (arith, f.back.few_left)))
-      ∙ rw s.clean (flat_take P n (parts_narrow count rows₀) (omega (arith, f.back.few_left, parts_length count rows₀))) in
-      let b : drop (13 * n) rows ≡ flat f.done ++ drop (13 * total) rows₀ = ap (λ (j : ℕ). drop (13 * j) rows) e ∙ f.past in
-      sym (take-append-drop (13 * n) rows) ∙ rw (a, b, w, f.all) (sym (append_assoc (flat (take n P)) (flat f.done) (drop (13 * total) rows₀)))
+      let l : length (take n P) ≡ n = first_length rows₀ count s n f.back.few_left in
+      merged_by (take n P) rows rows n u l (sym l ∙ ap length (sym u) ∙ f.size)
+      (f.front ∙ sym (take-take (13 * n) (13 * count) rows₀ (omega (arith, f.back.few_left)))
+      ∙ rw s.clean (flat_take P n (parts_narrow count rows₀) (omega (arith, f.back.few_left, parts_length count rows₀))))
+      (sym (take-append-drop (13 * n) rows))
+
+  merged_rest : n ≤ 0 → (after : List ℕ) → after ≡ take (13 * m) others ++ drop (13 * m) rows → Put (add (parts_at count rows₀) (parts_at other others)) rows₀ after
+  merged_rest h after w =
+      let Q : List Part = parts_at other others in
+      let s : Stands others other = f.back.right in
+      let u : united rows₀ others count other n m ≡ take m Q = united_right rows₀ others count other n m f.back h in
+      let l : length (take m Q) ≡ m = first_length others other s m f.back.few_right in
+      merged_by (take m Q) others after m u l (sym l ∙ ap length (sym u) ∙ f.size)
+      (sym (take-take (13 * m) (13 * other) others (omega (arith, f.back.few_right)))
+      ∙ rw s.clean (flat_take Q m (parts_narrow other others) (omega (arith, f.back.few_right, parts_length other others))))
+      w
 
   -- there is a part more, and so a place for it
   module _ (k : 0 < m) where
@@ -150,10 +162,6 @@ module _ (rows₀ others rows : List ℕ) (count other total n m to : ℕ) (f : 
         one_more n (m - 1) q (drop (13 * (m - 1)) others) rows' (back_right rows₀ others count other n m f.back k) (omega arith) u q_row
         (part_at_few (drop (13 * (m - 1)) others)) w
 
-    merged_rest : (rows' : List ℕ) → n ≡ 0 → rows' ≡ paste rows (13 * (to - 1)) (drop (13 * (m - 1)) others) 13
-        → Merged rows₀ others rows' count other total n (m - 1) (to - 1)
-    merged_rest rows' h w = q_more rows' (united_none rows₀ others count other n m f.back k (omega arith)) w
-
     module _ (h : 0 < n) where
       merged_in_left : 13 * (n - 1) + 13 ≤ length rows
       merged_in_left = omega (arith, f.back.few_left, f.back.left.small, f.back.left.room, f.long)
@@ -170,18 +178,18 @@ module _ (rows₀ others rows : List ℕ) (count other total n m to : ℕ) (f : 
           ∙ row_slice rows₀ (13 * (n - 1)) (omega (arith, merged_in_left, f.long))
           ∙ row_stands rows₀ count f.back.left (n - 1) (omega (arith, f.back.few_left))
 
-      merged_less : (rows' : List ℕ) → order (part_at (drop (13 * (n - 1)) rows₀)) (part_at (drop (13 * (m - 1)) others)) ≡ Ordering.lt
+      merged_less : (rows' : List ℕ) → order (part_at (drop (13 * (n - 1)) rows₀)) (part_at (drop (13 * (m - 1)) others)) ≡ nat.Ordering.lt
           → rows' ≡ paste rows (13 * (to - 1)) (drop (13 * (m - 1)) others) 13 → Merged rows₀ others rows' count other total n (m - 1) (to - 1)
       merged_less rows' g w = q_more rows' (united_less rows₀ others count other n m f.back k h g) w
 
-      merged_same : (rows' : List ℕ) → order (part_at (drop (13 * (n - 1)) rows₀)) (part_at (drop (13 * (m - 1)) others)) ≡ Ordering.eq
+      merged_same : (rows' : List ℕ) → order (part_at (drop (13 * (n - 1)) rows₀)) (part_at (drop (13 * (m - 1)) others)) ≡ nat.Ordering.eq
           → rows' ≡ paste rows (13 * (to - 1)) (drop (13 * (n - 1)) rows) 13 → Merged rows₀ others rows' count other total (n - 1) (m - 1) (to - 1)
       unfolding p
       merged_same rows' g w =
           one_more (n - 1) (m - 1) p (drop (13 * (n - 1)) rows) rows' (back_both rows₀ others count other n m f.back k h) (omega arith)
           (united_same rows₀ others count other n m f.back k h g) p_row (part_at_few (drop (13 * (n - 1)) rows₀)) w
 
-      merged_more : (rows' : List ℕ) → order (part_at (drop (13 * (n - 1)) rows₀)) (part_at (drop (13 * (m - 1)) others)) ≡ Ordering.gt
+      merged_more : (rows' : List ℕ) → order (part_at (drop (13 * (n - 1)) rows₀)) (part_at (drop (13 * (m - 1)) others)) ≡ nat.Ordering.gt
           → rows' ≡ paste rows (13 * (to - 1)) (drop (13 * (n - 1)) rows) 13 → Merged rows₀ others rows' count other total (n - 1) m (to - 1)
       unfolding p
       merged_more rows' g w =
@@ -189,167 +197,107 @@ module _ (rows₀ others rows : List ℕ) (count other total n m to : ℕ) (f : 
           (united_more rows₀ others count other n m f.back k h g) p_row (part_at_few (drop (13 * (n - 1)) rows₀)) w
 
 -- ---- the loop of `merge`: k steps are taken
-pub record Merging (rows₀ others steps rows : List ℕ) (count other total left right to k : ℕ) : Type 0 where
-  pub n : ℕ
-  pub m : ℕ
-  pub t : ℕ
-  pub is_left : left ≡ 13 * n
-  pub is_right : right ≡ 13 * m
-  pub is_to : to ≡ 13 * t
+pub record Merging (rows₀ others : List ℕ) (steps : List Ordering) (rows : List ℕ) (count other total n m to k : ℕ) : Type 0 where
   pub few : k + n + m ≤ 256
   pub size : length steps ≡ 256
-  pub merged : Merged rows₀ others rows count other total n m t
+  pub merged : Merged rows₀ others rows count other total n m to
   pub told : Compared rows₀ others n m (drop k steps)
 
-pub merge_start : (rows others steps : List ℕ) (count other total : ℕ) → Stands rows count → Stands others other → length steps ≡ 256
+pub merge_start : (rows others : List ℕ) (steps : List Ordering) (count other total : ℕ) → Stands rows count → Stands others other → length steps ≡ 256
     → total ≡ length (add (parts_at count rows) (parts_at other others)) → total ≤ 128 → Compared rows others count other steps
-    → Merging rows others steps rows count other total (13 * count) (13 * other) (13 * total) 0
+    → Merging rows others steps rows count other total count other total 0
 merge_start rows others steps count other total s t l e h c =
     record {
-      n = count;
-      m = other;
-      t = total;
-      is_left = refl;
-      is_right = refl;
-      is_to = refl;
       few = omega (arith, s.small, t.small);
       size = l;
       merged = merged_start rows others count other total s t e h;
       told = c;
     }
 
-module _ (rows₀ others steps rows : List ℕ) (count other total left right to k : ℕ) (f : Merging rows₀ others steps rows count other total left right to k) where
+module _ (rows₀ others : List ℕ) (steps : List Ordering) (rows : List ℕ) (count other total n m to k : ℕ) (f : Merging rows₀ others steps rows count other total n m to k) where
   pub merge_long : length rows ≡ length rows₀
   merge_long = f.merged.long
 
-  pub merge_done : right ≤ 0 → Put (add (parts_at count rows₀) (parts_at other others)) rows₀ rows
-  merge_done h = merged_done rows₀ others rows count other total f.n f.m f.t f.merged (omega (arith, f.is_right))
+  pub merge_rest_in : 13 * m ≤ length others
+  merge_rest_in = omega (arith, f.merged.back.few_right, f.merged.back.right.small, f.merged.back.right.room)
 
-  module _ (h : 0 < right) where
-    some_right : 0 < f.m
-    some_right = omega (arith, f.is_right)
+  pub merge_rest_fits : 13 * m ≤ length rows
+  merge_rest_fits = omega (arith, f.merged.back.few_right, f.merged.back.right.small, f.merged.back.left.room, f.merged.long)
 
-    some_to : 1 ≤ f.t
-    some_to = merged_to rows₀ others rows count other total f.n f.m f.t f.merged some_right
+  module _ (after : List ℕ) (w : after ≡ take (13 * m) others ++ drop (13 * m) rows) where
+    merge_rest : n ≤ 0 → Put (add (parts_at count rows₀) (parts_at other others)) rows₀ after
+    merge_rest h = merged_rest rows₀ others rows count other total n m to f.merged h after w
 
-    to_is : 13 * (f.t - 1) ≡ to - 13
-    to_is = omega (arith, some_to, f.is_to)
+    pub merge_end : length steps ≤ k → Put (add (parts_at count rows₀) (parts_at other others)) rows₀ after
+    merge_end h = merge_rest (omega (arith, f.few, f.size))
 
-    right_is : 13 * (f.m - 1) ≡ right - 13
-    right_is = omega (arith, some_right, f.is_right)
+    pub merge_either : (n ≡ 0) ⊎ ((n ≡ 0 → ⊥) × (m ≡ 0)) → Put (add (parts_at count rows₀) (parts_at other others)) rows₀ after
+    merge_either h = elim h [
+      | inl i ↦ merge_rest (omega arith)
+      | inr i ↦
+          let e : after ≡ rows = w ∙ ap (λ (j : ℕ). take (13 * j) others ++ drop (13 * j) rows) i.1 in
+          subst (Put (add (parts_at count rows₀) (parts_at other others)) rows₀) (sym e) (merged_done rows₀ others rows count other total n m to f.merged (omega (arith, i.1)))
+    ]
 
-    pub merge_sub_to : 13 ≤ to
-    merge_sub_to = omega (arith, some_to, f.is_to)
+  module _ (a : n ≡ 0 → ⊥) (b : m ≡ 0 → ⊥) where
+    some_left : 0 < n
+    some_left = pos_of_ne-zero a
 
-    pub merge_sub_right : 13 ≤ right
-    merge_sub_right = omega (arith, some_right, f.is_right)
+    some_right : 0 < m
+    some_right = pos_of_ne-zero b
 
-    pub merge_in_to : to - 13 + 13 ≤ length rows
-    merge_in_to = omega (arith, to_is, merged_in_to rows₀ others rows count other total f.n f.m f.t f.merged some_right)
+    pub merge_sub_to : 1 ≤ to
+    merge_sub_to = merged_to rows₀ others rows count other total n m to f.merged some_right
 
-    pub merge_in_right : right - 13 + 13 ≤ length others
-    merge_in_right = omega (arith, right_is, merged_in_right rows₀ others rows count other total f.n f.m f.t f.merged some_right)
+    pub merge_in_to : 13 * (to - 1) + 13 ≤ length rows
+    merge_in_to = merged_in_to rows₀ others rows count other total n m to f.merged some_right
 
-    pub merge_rest : (rows' : List ℕ) → left ≡ 0 → rows' ≡ paste rows (to - 13) (drop (right - 13) others) 13
-        → Merging rows₀ others steps rows' count other total left (right - 13) (to - 13) k
-    unfolding Compared
-    merge_rest rows' z w =
-        record {
-          n = f.n;
-          m = f.m - 1;
-          t = f.t - 1;
-          is_left = f.is_left;
-          is_right = sym right_is;
-          is_to = sym to_is;
-          few = omega (arith, f.few);
-          size = f.size;
-          merged = merged_rest rows₀ others rows count other total f.n f.m f.t f.merged some_right rows' (omega (arith, f.is_left)) (rw (to_is, right_is) w);
-          told = none_left (drop k steps);
-        }
-      where
-        none_left : (s : List ℕ) → Compared rows₀ others f.n (f.m - 1) s
-        none_left [] = tt
-        none_left (x ∷ s) = λ a b. absurd (omega (arith, f.is_left))
+    pub merge_in_right : 13 * (m - 1) + 13 ≤ length others
+    merge_in_right = merged_in_right rows₀ others rows count other total n m to f.merged some_right
 
-    module _ (z : left ≡ 0 → ⊥) where
-      some_left : 0 < f.n
-      some_left = let y : 0 < left = pos_of_ne-zero z in omega (arith, f.is_left)
+    pub merge_in_left : 13 * (n - 1) + 13 ≤ length rows
+    merge_in_left = merged_in_left rows₀ others rows count other total n m to f.merged some_right some_left
 
-      left_is : 13 * (f.n - 1) ≡ left - 13
-      left_is = omega (arith, some_left, f.is_left)
-
-      pub merge_sub_left : 13 ≤ left
-      merge_sub_left = omega (arith, some_left, f.is_left)
-
-      pub merge_in_left : left - 13 + 13 ≤ length rows
-      merge_in_left = omega (arith, left_is, merged_in_left rows₀ others rows count other total f.n f.m f.t f.merged some_right some_left)
-
-      pub merge_step : k < length steps
-      merge_step = omega (arith, some_left, f.few, f.size)
-
-      pub merge_add : Fits w64 (k + 1)
-      merge_add = Fits-under w64 (k + 1) 2000 (omega (arith, some_left, f.few)) tt
-
+    module _ (h : k < length steps) (d : Ordering) (rows' put : List ℕ) (n' m' : ℕ) (z : rows' ≡ put) where
       -- what the next step says, and the steps after it
-      next_told : (told_step (get_or steps k 0) ≡ order (part_at (drop (13 * (f.n - 1)) rows₀)) (part_at (drop (13 * (f.m - 1)) others)))
-          × Compared rows₀ others (by (told_step (get_or steps k 0)) f.n (f.n - 1) (f.n - 1)) (by (told_step (get_or steps k 0)) (f.m - 1) (f.m - 1) f.m) (drop (k + 1) steps)
+      next_told : (told_order (get_or steps k d) ≡ order (part_at (drop (13 * (n - 1)) rows₀)) (part_at (drop (13 * (m - 1)) others)))
+          × Compared rows₀ others (by (told_order (get_or steps k d)) n (n - 1) (n - 1)) (by (told_order (get_or steps k d)) (m - 1) (m - 1) m) (drop (k + 1) steps)
       unfolding Compared
       next_told =
-          let e : drop k steps ≡ get_or steps k 0 ∷ drop (k + 1) steps = drop-cons steps k 0 merge_step ∙ rw add-one in
-          (rw e at f.told) some_left some_right
+          let c : drop k steps ≡ get_or steps k d ∷ drop (k + 1) steps = drop-cons steps k d h ∙ rw add-one in
+          (rw c at f.told) some_left some_right
 
-      pub merge_less : (rows' : List ℕ) → get_or steps k 0 ≡ 0 → rows' ≡ paste rows (to - 13) (drop (right - 13) others) 13
-          → Merging rows₀ others steps rows' count other total left (right - 13) (to - 13) (k + 1)
-      unfolding told_step
-      merge_less rows' s w =
+      pub merge_less : get_or steps k d ≡ Less → put ≡ paste rows (13 * (to - 1)) (drop (13 * (m - 1)) others) 13 → n' ≡ n → m' ≡ m - 1
+          → Merging rows₀ others steps rows' count other total n' m' (to - 1) (k + 1)
+      merge_less s w x y =
           let c = rw s at next_told in
-          record {
-            n = f.n;
-            m = f.m - 1;
-            t = f.t - 1;
-            is_left = f.is_left;
-            is_right = sym right_is;
-            is_to = sym to_is;
+          rw (x, y) (record {
             few = omega (arith, some_right, f.few);
             size = f.size;
-            merged = merged_less rows₀ others rows count other total f.n f.m f.t f.merged some_right some_left rows' (sym c.0) (rw (to_is, right_is) w);
+            merged = merged_less rows₀ others rows count other total n m to f.merged some_right some_left rows' (sym c.0) (z ∙ w);
             told = c.1;
-          }
+          })
 
-      pub merge_same : (rows' : List ℕ) → get_or steps k 0 ≡ 1 → rows' ≡ paste rows (to - 13) (drop (left - 13) rows) 13
-          → Merging rows₀ others steps rows' count other total (left - 13) (right - 13) (to - 13) (k + 1)
-      unfolding told_step
-      merge_same rows' s w =
+      pub merge_same : get_or steps k d ≡ Equal → put ≡ paste rows (13 * (to - 1)) (drop (13 * (n - 1)) rows) 13 → n' ≡ n - 1 → m' ≡ m - 1
+          → Merging rows₀ others steps rows' count other total n' m' (to - 1) (k + 1)
+      merge_same s w x y =
           let c = rw s at next_told in
-          record {
-            n = f.n - 1;
-            m = f.m - 1;
-            t = f.t - 1;
-            is_left = sym left_is;
-            is_right = sym right_is;
-            is_to = sym to_is;
+          rw (x, y) (record {
             few = omega (arith, some_left, some_right, f.few);
             size = f.size;
-            merged = merged_same rows₀ others rows count other total f.n f.m f.t f.merged some_right some_left rows' (sym c.0) (rw (to_is, left_is) w);
+            merged = merged_same rows₀ others rows count other total n m to f.merged some_right some_left rows' (sym c.0) (z ∙ w);
             told = c.1;
-          }
+          })
 
-      pub merge_more : (rows' : List ℕ) → (get_or steps k 0 ≡ 0 → ⊥) → (get_or steps k 0 ≡ 1 → ⊥) → rows' ≡ paste rows (to - 13) (drop (left - 13) rows) 13
-          → Merging rows₀ others steps rows' count other total (left - 13) right (to - 13) (k + 1)
-      merge_more rows' x y w =
-          let s : told_step (get_or steps k 0) ≡ Ordering.gt = told_more (get_or steps k 0) x y in
+      pub merge_more : get_or steps k d ≡ Greater → put ≡ paste rows (13 * (to - 1)) (drop (13 * (n - 1)) rows) 13 → n' ≡ n - 1 → m' ≡ m
+          → Merging rows₀ others steps rows' count other total n' m' (to - 1) (k + 1)
+      merge_more s w x y =
           let c = rw s at next_told in
-          record {
-            n = f.n - 1;
-            m = f.m;
-            t = f.t - 1;
-            is_left = sym left_is;
-            is_right = f.is_right;
-            is_to = sym to_is;
+          rw (x, y) (record {
             few = omega (arith, some_left, f.few);
             size = f.size;
-            merged = merged_more rows₀ others rows count other total f.n f.m f.t f.merged some_right some_left rows' (sym c.0) (rw (to_is, left_is) w);
+            merged = merged_more rows₀ others rows count other total n m to f.merged some_right some_left rows' (sym c.0) (z ∙ w);
             told = c.1;
-          }
+          })
 
-pub ruleset merging = (merge_start, merge_long, merge_done, merge_sub_to, merge_sub_right, merge_in_to, merge_in_right, merge_rest, merge_sub_left, merge_in_left, merge_step, merge_add, merge_less, merge_same, merge_more)
+pub ruleset merging = (merge_start, merge_long, merge_rest_in, merge_rest_fits, merge_end, merge_either, merge_sub_to, merge_in_to, merge_in_right, merge_in_left, merge_less, merge_same, merge_more)

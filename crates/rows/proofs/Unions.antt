@@ -163,11 +163,6 @@ module _ (rows others : List ℕ) (count other n m : ℕ) (f : Backing rows othe
     pub back_right : Backing rows others count other n (m - 1)
     back_right = record { left = f.left; right = f.right; few_left = f.few_left; few_right = omega (arith, f.few_right) }
 
-    pub united_none : n ≤ 0 → united rows others count other n m ≡ united rows others count other n (m - 1) ++ part_at (drop (13 * (m - 1)) others) ∷ []
-    united_none h =
-        united_right rows others count other n m f h ∙ first_last others other f.right m f.few_right k
-        ∙ ap (λ (t : List Part). t ++ part_at (drop (13 * (m - 1)) others) ∷ []) (sym (united_right rows others count other n (m - 1) back_right h))
-
     module _ (h : 0 < n) where
       L : Rising order (take (n - 1) (parts_at count rows) ++ part_at (drop (13 * (n - 1)) rows) ∷ [])
       L = rw (first_last rows count f.left n f.few_left h) at (first_rising rows count f.left n f.few_left)

@@ -9,13 +9,13 @@ use lib.Dec.{ltb}
 use lib.ListN.{length, take, drop}
 use Rattle.grammar.specs.MeaningReading.{Reading}
 use Rattle.grammar.specs.MeaningGrammar.{kind_of}
+use Rattle.std.specs.Prelude.{None}
 use Rattle.sheet.specs.MeaningSheet.{tag_of, end_of}
 use Rattle.sheet.specs.MirrorField.{field_at}
-use Rattle.sheet.specs.declared.Header.TheVariants.{Passes}
 use Rattle.forest.specs.MeaningForest.{Forest, encode, Right}
 use Rattle.forest.specs.MeaningForest.Forest.{nil as no_fields, leaf as plain, node as nested}
 use Rattle.forest.specs.MeaningPlaces.{nests}
-use Rattle.forest.proofs.Laying.{part, length_part, Read, read, Laid as HeaderLaid, laid as header-laid}
+use Rattle.forest.proofs.Laying.{part, length_part, Read, read, Laid as FieldLaid, laid as field_laid_at}
 use Rattle.forest.proofs.Proved.{sound_plain}
 use Rattle.schemas.specs.MeaningTree.{Tree, tree_at}
 use Rattle.schemas.specs.MeaningTree.Tree.{nil, leaf, node}
@@ -38,8 +38,8 @@ module _ (s : List ℕ) where
   unfolding encode
   no_bytes at e l k h = omega (arith, ap length h, length_part s at e l)
 
-  header : (at e t : ℕ) (v rest : List ℕ) → Read s at e t v rest → (tag_of s at ≡ t) × (end_of s at ≡ at + 3 + length v)
-  header at e t v rest r = let h = subst (HeaderLaid s at e) r.there (header-laid s at e) in (h.0, h.2)
+  headed : (at e t : ℕ) (v rest : List ℕ) → Read s at e t v rest → (tag_of s at ≡ t) × (end_of s at ≡ at + 3 + length v)
+  headed at e t v rest r = let h = subst (FieldLaid s at e) r.there (field_laid_at s at e) in (h.0, h.2)
 
   value : (at e t : ℕ) (v rest : List ℕ) → Read s at e t v rest → take (length v) (drop (at + 3) s) ≡ v
   value at e t v rest r = let k : at + 3 + length v - (at + 3) ≡ length v = omega arith in rw k at r.body
@@ -49,11 +49,11 @@ module _ (s : List ℕ) where
   laid no_fields at e l k h = no_bytes at e l k h
   laid (plain t v f) at e l k h =
       let r = read s at e t v (encode f) l h in
-      let x = header at e t v (encode f) r in
+      let x = headed at e t v (encode f) r in
       (x.0, x.1, value at e t v (encode f) r, laid f (at + 3 + length v) e l r.within r.left)
   laid (nested t g f) at e l k h =
       let r = read s at e t (encode g) (encode f) l h in
-      let x = header at e t (encode g) (encode f) r in
+      let x = headed at e t (encode g) (encode f) r in
       let w = r.within in
       (x.0, x.1, laid g (at + 3) (at + 3 + length (encode g)) (omega arith) (omega arith) (sym r.body), laid f (at + 3 + length (encode g)) e l w r.left)
 
@@ -62,7 +62,7 @@ module _ (s : List ℕ) where
   counted rd p no_fields at e R l k h =
       let q = no_bytes at e l k h in
       let z : ltb (e - at) 3 ≡ true = lt-ltb (e - at) 3 (omega arith) in
-      let y : field_at s at e ≡ Passes = rw z in
+      let y : field_at s at e ≡ None = rw z in
       subst (Grows s at e) y (grows s at e)
   counted rd p (plain t v f) at e R l k h =
       let r = read s at e t v (encode f) l h in

@@ -10,8 +10,8 @@ use lib.ListN.{length, take, drop}
 use lib.Seq.{take-length}
 use Rattle.sheet.specs.MeaningSheet.{tag_of, size_of, end_of, value_of}
 use Rattle.sheet.specs.MirrorField.{field_at}
-use Rattle.sheet.specs.declared.Header.{Header}
-use Rattle.sheet.specs.declared.Header.TheVariants.{Field, Passes}
+use Rattle.std.specs.Prelude.{Option, Some, None}
+use Rattle.sheet.specs.declared.Field.{Field}
 use Rattle.grammar.proofs.Choosing.{either, clash}
 use Rattle.forest.specs.MeaningForest.{field, encode}
 use Rattle.forest.specs.MeaningPlaces.{nests}
@@ -32,13 +32,13 @@ prefix (x ∷ b) c (z ∷ xs) (suc m) q =
     let t : b ++ c ≡ take m xs = cc in
     ap₂ (λ (y : ℕ) (ys : List ℕ). y ∷ ys) h (prefix b c xs m t)
 
-abbrev Ends : List ℕ → ℕ → Header → Type 0
-Ends s at Passes = Unit {0}
-Ends s at (Field t a b) = b ≡ end_of s at
+abbrev Ends : List ℕ → ℕ → Option Field → Type 0
+Ends s at None = Unit {0}
+Ends s at (Some f) = f.stop ≡ end_of s at
 
 ends : (s : List ℕ) (at e : ℕ) → Ends s at (field_at s at e)
 unfolding field_at
-ends s at e = either (Ends s at) (ltb (e - at) 3) Passes _ (λ _. tt) (λ h. either (Ends s at) (ltb (e - (at + 3)) (size_of s at)) Passes _ (λ _. tt) (λ k. refl))
+ends s at e = either (Ends s at) (ltb (e - at) 3) None _ (λ _. tt) (λ h. either (Ends s at) (ltb (e - (at + 3)) (size_of s at)) None _ (λ _. tt) (λ k. refl))
 
 abbrev Says : List ℕ → ℕ → ℕ → Tree → Type 0
 Says s at e t = encode (bare t) ≡ part s at e → Whole s t

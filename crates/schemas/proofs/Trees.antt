@@ -11,8 +11,8 @@ use lib.ListN.{length}
 use Rattle.grammar.specs.MeaningGrammar.{kind_of, one_of}
 use Rattle.sheet.specs.MeaningSheet.{tag_of, size_of, end_of}
 use Rattle.sheet.specs.MirrorField.{field_at}
-use Rattle.sheet.specs.declared.Header.{Header}
-use Rattle.sheet.specs.declared.Header.TheVariants.{Field, Passes}
+use Rattle.std.specs.Prelude.{Option, Some, None}
+use Rattle.sheet.specs.declared.Field.{Field}
 use Rattle.grammar.proofs.Choosing.{either}
 use Rattle.sheet.proofs.Deciding.{Inside, inside}
 use Rattle.forest.specs.MeaningForest.{Forest}
@@ -58,16 +58,16 @@ onto_cond true t p v g f = refl
 onto_cond false t p v g f = refl
 
 -- the tree at a place, by what stands there
-abbrev pub Grows : List ℕ → ℕ → ℕ → Header → Type 0
-Grows s at e Passes = tree_at s at e ≡ nil
-Grows s at e (Field t a b) = tree_at s at e ≡ onto (nests t) t at (part s a b) (tree_at s a b) (tree_at s b e)
+abbrev pub Grows : List ℕ → ℕ → ℕ → Option Field → Type 0
+Grows s at e None = tree_at s at e ≡ nil
+Grows s at e (Some f) = tree_at s at e ≡ onto (nests f.tag) f.tag at (part s f.start f.stop) (tree_at s f.start f.stop) (tree_at s f.stop e)
 
 module _ (s : List ℕ) (at e : ℕ) where
   cut : e < end_of s at → tree_at s at e ≡ nil
   unfolding grow
   cut h = tree_eq s at e ∙ rw (lt-leb (end_of s at) e h)
 
-  here : (n : ℕ) → size_of s at ≡ n → at + 3 + n ≤ e → Grows s at e (Field (tag_of s at) (at + 3) (at + 3 + n))
+  here : (n : ℕ) → size_of s at ≡ n → at + 3 + n ≤ e → Grows s at e (Some (record { tag = tag_of s at; start = at + 3; stop = at + 3 + n }))
   unfolding grow
   here n q h =
       let z : leb (at + 3 + n) e ≡ true = le-leb (at + 3 + n) e h in
@@ -77,9 +77,9 @@ module _ (s : List ℕ) (at e : ℕ) where
   pub grows : Grows s at e (field_at s at e)
   unfolding field_at
   grows =
-      either (Grows s at e) (ltb (e - at) 3) Passes _
+      either (Grows s at e) (ltb (e - at) 3) None _
       (λ k. cut (omega (arith, ltb-true (e - at) 3 k)))
-      (λ k. either (Grows s at e) (ltb (e - (at + 3)) (size_of s at)) Passes _
+      (λ k. either (Grows s at e) (ltb (e - (at + 3)) (size_of s at)) None _
       (λ w. cut (omega (arith, ltb-true (e - (at + 3)) (size_of s at) w)))
       (λ w. here (size_of s at) refl (omega (arith, ltb-false (e - at) 3 k, ltb-false (e - (at + 3)) (size_of s at) w))))
 
@@ -106,10 +106,10 @@ bare_onto : (b : Bool) (t p : ℕ) (v : List ℕ) (g f : Tree) (x y : Forest) �
 bare_onto true t p v g f x y k l = ap₂ (λ (a b : Forest). nested t a b) k l
 bare_onto false t p v g f x y k l = ap (λ (a : Forest). plain t v a) l
 
-step : (s : List ℕ) (at e : ℕ) → ((a b : ℕ) → at < a → a ≤ b → b ≤ e → Same s a b) → (h : Header) → Grows s at e h → Grown s at e h → Inside s at e h → Same s at e
-step s at e go Passes x y i = ap bare x ∙ sym y
-step s at e go (Field t a b) x y i =
-    ap bare x ∙ bare_onto (nests t) t at (part s a b) (tree_at s a b) (tree_at s b e) (forest_at s a b) (forest_at s b e) (go a b i.0 i.1 i.2) (go b e (omega arith) i.2 (le_refl e)) ∙ sym y
+step : (s : List ℕ) (at e : ℕ) → ((a b : ℕ) → at < a → a ≤ b → b ≤ e → Same s a b) → (h : Option Field) → Grows s at e h → Grown s at e h → Inside s at e h → Same s at e
+step s at e go None x y i = ap bare x ∙ sym y
+step s at e go (Some f) x y i =
+    ap bare x ∙ bare_onto (nests f.tag) f.tag at (part s f.start f.stop) (tree_at s f.start f.stop) (tree_at s f.stop e) (forest_at s f.start f.stop) (forest_at s f.stop e) (go f.start f.stop i.0 i.1 i.2) (go f.stop e (omega arith) i.2 (le_refl e)) ∙ sym y
 
 by_size : (n : ℕ) (s : List ℕ) (at e : ℕ) → e - at < n → e ≤ length s → Same s at e
 by_size zero s at e h l = absurd (not-suc-le-zero h)

@@ -1,12 +1,12 @@
 -- What is proved of sheets, their forests and their schemas, to be read without the proofs: each claim is a type, and proofs/Proved.antt has a member of each.
-use Rattle.std.specs.Prelude.{ℕ, ◌≡◌, ◌↔◌, List, length}
+use Rattle.std.specs.Prelude.{ℕ, ◌≡◌, ◌↔◌, List, length, Result}
 use Rattle.refusal.specs.MeaningAnswer.{done}
+use Rattle.refusal.specs.Told.{told}
+use Rattle.refusal.specs.declared.Refusal.{Refusal}
 use Rattle.grammar.specs.MeaningReading.{Reading}
 use Rattle.sheet.specs.MeaningSheet.{Is}
-use Rattle.sheet.specs.Told.{told}
 use Rattle.sheet.specs.Promises.{PromiseVerdict}
 use Rattle.sheet.specs.Claims.{AllBytes}
-use Rattle.sheet.specs.declared.Judgement.{Judgement}
 use Rattle.forest.specs.MeaningForest.{Forest, encode, Fits}
 use Rattle.forest.specs.MeaningDecoding.{forest_of}
 use Rattle.schemas.specs.MeaningTree.{Tree, grow, tree_at, tree_of}
@@ -26,7 +26,7 @@ FaultsAndForests = (rd : Reading) (s : List ℕ) → AllBytes s → Is rd s (don
 
 -- so `verdict` accepts exactly those
 abbrev pub AcceptsForests : Type 0
-AcceptsForests = (rd : Reading) (s : List ℕ) (r : Judgement) → AllBytes s → PromiseVerdict rd s r → (told r ≡ done tt) ↔ ((f : Forest) × (encode f ≡ s) × Fits rd f)
+AcceptsForests = (rd : Reading) (s : List ℕ) (r : Result (Unit {0}) Refusal) → AllBytes s → PromiseVerdict rd s r → (told r ≡ done tt) ↔ ((f : Forest) × (encode f ≡ s) × Fits rd f)
 
 -- the forest is that of its bytes
 abbrev pub ReadsBack : Type 0

@@ -1,64 +1,24 @@
 -- Names compared byte by byte, and that equal names, steps and scopes are so as an equivalence has it.
-use mathlib.Core.Path.{◌≡◌, refl, sym, ap, ◌∙◌}
+use mathlib.Core.Path.{◌≡◌, refl, sym, ◌∙◌}
 use mathlib.Core.List.{List, [], ◌∷◌}
-use mathlib.Core.Bool.{Bool, true, false, ◌&&◌, and-false}
-use Prim.Native.Nat.{ℕ, suc, ◌+◌, ◌<◌, ◌≤◌}
-use native.Mathlib.Numerals.{add-one}
-use native.Mathlib.Omega.{arith}
-use borrow.Author.Tests.{eq-eqb, ne_eqb, eqb-true}
+use mathlib.Core.Bool.{Bool, true, ◌&&◌}
+use Prim.Native.Nat.{ℕ}
+use borrow.Author.Tests.{eq-eqb, eqb-true}
 use lib.Dec.{eqb}
-use lib.ListN.{length, get_or, drop, drop_of_length-le}
-use lib.Seq.{drop-cons}
+use lib.Pointwise.{pointwise}
 use Rattle.grammar.specs.MeaningReading.{Reading}
 use Rattle.grammar.specs.MeaningReading.Reading.{rust}
-use Rattle.sheet.specs.Told.{told_reading}
-use Rattle.sheet.specs.declared.Reading as code
 use Rattle.grammar.proofs.Choosing.{clash, both}
 use Rattle.scope.specs.MeaningNames.{same_bytes, same_name}
 use Rattle.scope.specs.MeaningScope.{Step, Scope, place_of, steps_equal, same_scope}
 
--- ---- the loop of `same_bytes`: the bytes from i on decide
-
-pub record Alike (a b : List ℕ) (i : ℕ) : Type 0 where
-  pub inside : i ≤ length a
-  pub long : length a ≡ length b
-  pub rest : same_bytes (drop i a) (drop i b) ≡ same_bytes a b
-
-pub alike_start : (a b : List ℕ) → length a ≡ length b → Alike a b 0
-alike_start a b l = record { inside = omega arith; long = l; rest = refl }
-
-pub alike_short : (a b : List ℕ) → (length a ≡ length b → ⊥) → false ≡ same_bytes a b
+-- the slices' own test
+pub bytewise : (a b : List ℕ) → pointwise eqb a b ≡ same_bytes a b
 unfolding same_bytes
-alike_short [] [] n = absurd (n refl)
-alike_short [] (y ∷ ys) n = refl
-alike_short (x ∷ xs) [] n = refl
-alike_short (x ∷ xs) (y ∷ ys) n = rw (← alike_short xs ys (λ e. n (ap suc e)), and-false (eqb x y)) refl
-
-module _ (a b : List ℕ) (i : ℕ) (f : Alike a b i) where
-  pub alike_in : i < length a → i < length b
-  alike_in h = omega (arith, f.long)
-
-  module _ (h : i < length a) where
-    turn : eqb (get_or a i 0) (get_or b i 0) && same_bytes (drop (suc i) a) (drop (suc i) b) ≡ same_bytes a b
-    unfolding same_bytes
-    turn = sym (rw (drop-cons a i 0 h, drop-cons b i 0 (alike_in h)) refl) ∙ f.rest
-
-    pub alike_differ : (get_or a i 0 ≡ get_or b i 0 → ⊥) → false ≡ same_bytes a b
-    alike_differ e = sym (rw (ne_eqb (get_or a i 0) (get_or b i 0) e) refl) ∙ turn
-
-    pub alike_next : get_or a i 0 ≡ get_or b i 0 → Alike a b (i + 1)
-    alike_next e = record { inside = omega arith; long = f.long; rest = sym (rw (add-one i, eq-eqb (get_or a i 0) (get_or b i 0) e) refl) ∙ turn }
-
-  pub alike_done : length a ≤ i → true ≡ same_bytes a b
-  unfolding same_bytes
-  alike_done h = let k : length b ≤ i = omega (arith, f.long) in sym (rw (drop_of_length-le a h, drop_of_length-le b k) refl) ∙ f.rest
-
-pub ruleset comparing = (alike_start, alike_short, alike_in, alike_differ, alike_next, alike_done)
-
--- the one reading: the only place that goes by its cases, with the three laws below
-pub by_bytes : (r : code.Reading) (a b : List ℕ) (x : Bool) → x ≡ same_bytes a b → x ≡ same_name (told_reading r) a b
-unfolding same_name told_reading
-by_bytes code.TheVariants.Rust a b x e = e
+bytewise [] [] = refl
+bytewise [] (y ∷ ys) = refl
+bytewise (x ∷ xs) [] = refl
+bytewise (x ∷ xs) (y ∷ ys) = rw (bytewise xs ys) refl
 
 -- ---- an equivalence
 

@@ -4,31 +4,16 @@ use mathlib.Core.List.{List, [], ◌∷◌}
 use mathlib.Core.Bool.{Bool, true, false, not, ◌&&◌, and-true, and-false}
 use Prim.Native.Nat.{ℕ, zero, suc, ◌-◌, ◌<◌, ◌≤◌}
 use native.Mathlib.Omega.{arith}
-use borrow.Author.Tests.{eq-eqb, ne_eqb, not-true, not-false}
-use lib.ListN.{length, take, drop, length-take}
-use Rattle.refusal.specs.MeaningAnswer.{done}
+use borrow.Author.Tests.{not-true, not-false}
+use lib.ListN.{length, take, length-take}
 use Rattle.grammar.specs.MeaningReading.{Reading}
 use Rattle.grammar.proofs.Choosing.{clash}
-use Rattle.scope.specs.MeaningNames.{same_name}
-use Rattle.scope.specs.MeaningScope.{Step, place_of, steps_equal, starts, compared}
-use Rattle.scope.specs.Told.{told_kind, told_compared, told_step, told_scope}
+use Rattle.scope.specs.MeaningScope.{Step, steps_equal, starts}
+use Rattle.scope.specs.Told.{told_step, told_scope}
 use Rattle.scope.specs.MirrorScope.{Spans, Fits}
-use Rattle.scope.specs.declared.Rung.{Rung}
 use Rattle.scope.specs.declared.Scope.{Scope}
-use Rattle.scope.specs.declared.Compared as code
 
 -- ---- one step
-
-module _ (rd : Reading) (s t : List ℕ) (a b : Rung) (x y : ℕ) (e : x ≡ place_of (told_kind a.kind)) (f : y ≡ place_of (told_kind b.kind)) where
-  pub kinds_differ : (x ≡ y → ⊥) → false ≡ steps_equal rd (told_step s a) (told_step t b)
-  unfolding steps_equal told_step
-  kinds_differ d = sym (rw (← e, ← f, ne_eqb x y d) refl)
-
-  pub kinds_same : x ≡ y → (z : Bool) → z ≡ same_name rd (take (a.stop - a.start) (drop a.start s)) (take (b.stop - b.start) (drop b.start t)) → z ≡ steps_equal rd (told_step s a) (told_step t b)
-  unfolding steps_equal told_step
-  kinds_same d z k = k ∙ sym (rw (← e, ← f, eq-eqb x y d) refl)
-
-pub ruleset likening = (kinds_differ, kinds_same)
 
 -- ---- one scope starts another
 
@@ -113,24 +98,3 @@ pub fits_third : (s : List ℕ) (a : Scope) → Fits s a → Spans s a.three
 fits_third s a f = f.third
 
 pub ruleset starting = (start_short, start_root, start_differs, start_first, start_second_differs, start_second, start_third, fits_first, fits_second, fits_third)
-
--- ---- the answer
-
-module _ (rd : Reading) (l r : List Step) (x y : Bool) (e : x ≡ starts rd l r) (f : y ≡ starts rd r l) where
-  pub both_start : x ≡ true → y ≡ true → told_compared code.TheVariants.Equal ≡ done (compared rd l r)
-  unfolding told_compared compared
-  both_start i j = rw (sym e ∙ i, sym f ∙ j) refl
-
-  pub left_starts : x ≡ true → y ≡ false → told_compared code.TheVariants.Greater ≡ done (compared rd l r)
-  unfolding told_compared compared
-  left_starts i j = rw (sym e ∙ i, sym f ∙ j) refl
-
-  pub right_starts : x ≡ false → y ≡ true → told_compared code.TheVariants.Less ≡ done (compared rd l r)
-  unfolding told_compared compared
-  right_starts i j = rw (sym e ∙ i, sym f ∙ j) refl
-
-  pub neither_starts : x ≡ false → y ≡ false → told_compared code.TheVariants.Unordered ≡ done (compared rd l r)
-  unfolding told_compared compared
-  neither_starts i j = rw (sym e ∙ i, sym f ∙ j) refl
-
-pub ruleset comparing_scopes = (both_start, left_starts, right_starts, neither_starts)

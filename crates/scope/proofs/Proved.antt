@@ -1,10 +1,14 @@
 -- The claims of specs/Claims.antt.
-use mathlib.Core.Path.{refl, ap}
+use mathlib.Core.Path.{◌≡◌, refl, sym, ap, ◌∙◌}
+use Rattle.std.specs.declared.cmp.Ordering.{Ordering}
+use Rattle.std.specs.declared.cmp.Ordering.TheVariants.{Less, Equal, Greater}
+use Rattle.std.specs.Prelude.{Option, Some, None, Ok, Err}
 use Rattle.refusal.proofs.Same.{same_refusal}
 use Rattle.grammar.proofs.Choosing.{clash}
+use Rattle.scope.specs.MeaningScope.{Comparison}
+use Rattle.scope.specs.MeaningScope.Comparison.{less, equal, greater, unordered}
 use Rattle.scope.specs.Told.{told_compared}
 use Rattle.scope.specs.Claims.{NamesReflexive, NamesSymmetric, NamesTransitive, OrderReflexive, EqualExactly, GreaterExactly, LessExactly, ToldInjective, PushAppends, PushRefuses, PopDrops}
-use Rattle.scope.specs.declared.Compared.TheVariants.{Less, Equal, Greater, Unordered, Refused}
 use Rattle.scope.proofs.Equality.{name_refl, name_sym, name_trans, scope_refl}
 use Rattle.scope.proofs.Beginnings.{equal_same, same_equal, greater_begins, begins_greater, less_begins, begins_less}
 use Rattle.scope.proofs.Holding.{push_appends, push_refused, pop_drops}
@@ -30,33 +34,25 @@ greater_exactly rd a b = (greater_begins rd a b, begins_greater rd a b)
 pub less_exactly : LessExactly
 less_exactly rd a b = (less_begins rd a b, begins_less rd a b)
 
-pub told_injective : ToldInjective
+-- an order by the comparison that it tells
+abbrev order_of : Comparison → Option Ordering
+order_of less = Some Less
+order_of equal = Some Equal
+order_of greater = Some Greater
+order_of unordered = None
+
+own_order : (o : Option Ordering) → order_of (told_compared o) ≡ o
 unfolding told_compared
-told_injective Less Less q = refl
-told_injective Less Equal q = clash (cc)
-told_injective Less Greater q = clash (cc)
-told_injective Less Unordered q = clash (cc)
-told_injective Less (Refused w) q = clash (cc)
-told_injective Equal Less q = clash (cc)
-told_injective Equal Equal q = refl
-told_injective Equal Greater q = clash (cc)
-told_injective Equal Unordered q = clash (cc)
-told_injective Equal (Refused w) q = clash (cc)
-told_injective Greater Less q = clash (cc)
-told_injective Greater Equal q = clash (cc)
-told_injective Greater Greater q = refl
-told_injective Greater Unordered q = clash (cc)
-told_injective Greater (Refused w) q = clash (cc)
-told_injective Unordered Less q = clash (cc)
-told_injective Unordered Equal q = clash (cc)
-told_injective Unordered Greater q = clash (cc)
-told_injective Unordered Unordered q = refl
-told_injective Unordered (Refused w) q = clash (cc)
-told_injective (Refused v) Less q = clash (cc)
-told_injective (Refused v) Equal q = clash (cc)
-told_injective (Refused v) Greater q = clash (cc)
-told_injective (Refused v) Unordered q = clash (cc)
-told_injective (Refused v) (Refused w) q = ap Refused (same_refusal v w (cc) (cc))
+own_order (Some Less) = refl
+own_order (Some Equal) = refl
+own_order (Some Greater) = refl
+own_order None = refl
+
+pub told_injective : ToldInjective
+told_injective (Ok o) (Ok o') q = let e : told_compared o ≡ told_compared o' = cc in ap Ok (sym (own_order o) ∙ ap order_of e ∙ own_order o')
+told_injective (Ok o) (Err w) q = clash (cc)
+told_injective (Err v) (Ok o) q = clash (cc)
+told_injective (Err v) (Err w) q = ap Err (same_refusal v w (cc) (cc))
 
 pub pushing_appends : PushAppends
 pushing_appends = push_appends

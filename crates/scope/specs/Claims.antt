@@ -1,5 +1,8 @@
 -- What is proved, to be read without the proofs: each claim is a type, and proofs/Proved.antt has a member of each.
-use Rattle.std.specs.Prelude.{ℕ, ◌<◌, ◌≤◌, ◌≡◌, ◌↔◌, List, [], ◌∷◌, ◌++◌, true, length}
+use Rattle.std.specs.declared.cmp.Ordering.{Ordering}
+use Rattle.std.specs.Prelude.{ℕ, ◌<◌, ◌≤◌, ◌≡◌, ◌↔◌, List, [], ◌∷◌, ◌++◌, true, length, Option, Some, None, Result}
+use Rattle.refusal.specs.Told.{told_by}
+use Rattle.refusal.specs.declared.Refusal.{Refusal}
 use Rattle.grammar.specs.MeaningReading.{Reading}
 use Rattle.scope.specs.MeaningNames.{same_name}
 use Rattle.scope.specs.MeaningScope.{Step, Scope, same_scope, compared}
@@ -7,9 +10,6 @@ use Rattle.scope.specs.MeaningScope.Comparison.{less, equal, greater}
 use Rattle.scope.specs.Told.{told_compared}
 use Rattle.scope.specs.Held.{rung_of, scope_of}
 use Rattle.scope.specs.MirrorScope.{pushed_on, popped_from}
-use Rattle.scope.specs.declared.Compared.{Compared}
-use Rattle.scope.specs.declared.Pushed.TheVariants.{Onto, Full}
-use Rattle.scope.specs.declared.Popped.TheVariants.{Outer}
 
 -- ---- equal names: an equivalence, under every reading
 
@@ -46,15 +46,15 @@ LessExactly = (rd : Reading) (a b : Scope) → (compared rd a b ≡ less) ↔ Be
 
 -- different answers say different things
 abbrev pub ToldInjective : Type 0
-ToldInjective = (r r' : Compared) → told_compared r ≡ told_compared r' → r ≡ r'
+ToldInjective = (r r' : Result (Option Ordering) Refusal) → told_by told_compared r ≡ told_by told_compared r' → r ≡ r'
 
 -- ---- scopes as the code holds them: a step more goes behind the others, a full scope takes none, and popping takes the last away
 
 abbrev pub PushAppends : Type 0
-PushAppends = (a : Scope) (x : Step) → length a < 3 → pushed_on (scope_of a) (rung_of x) ≡ Onto (scope_of (a ++ (x ∷ [])))
+PushAppends = (a : Scope) (x : Step) → length a < 3 → pushed_on (scope_of a) (rung_of x) ≡ Some (scope_of (a ++ (x ∷ [])))
 
 abbrev pub PushRefuses : Type 0
-PushRefuses = (a : Scope) (x : Step) → 3 ≤ length a → pushed_on (scope_of a) (rung_of x) ≡ Full
+PushRefuses = (a : Scope) (x : Step) → 3 ≤ length a → pushed_on (scope_of a) (rung_of x) ≡ None
 
 abbrev pub PopDrops : Type 0
-PopDrops = (a : Scope) (x : Step) → length a < 3 → popped_from (scope_of (a ++ (x ∷ []))) ≡ Outer (scope_of a)
+PopDrops = (a : Scope) (x : Step) → length a < 3 → popped_from (scope_of (a ++ (x ∷ []))) ≡ Some (scope_of a)

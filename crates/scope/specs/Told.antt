@@ -1,7 +1,7 @@
 -- What the cases of the code's types mean, in the papers' words.
-use Rattle.std.specs.Prelude.{ℕ, ◌-◌, List, [], ◌∷◌, take, drop}
-use Rattle.refusal.specs.MeaningAnswer.{Answer, done}
-use Rattle.refusal.specs.Told.{told_refusal}
+use Rattle.std.specs.declared.cmp.Ordering.{Ordering}
+use Rattle.std.specs.declared.cmp.Ordering.TheVariants.{Less, Equal, Greater}
+use Rattle.std.specs.Prelude.{ℕ, ◌-◌, List, [], ◌∷◌, take, drop, Option, Some, None}
 use Rattle.scope.specs.MeaningScope as meaning
 use Rattle.scope.specs.MeaningScope.{Comparison}
 use Rattle.scope.specs.declared.ScopeType.{ScopeType}
@@ -9,8 +9,6 @@ use Rattle.scope.specs.declared.ScopeType.TheVariants.{Entity, Alias, Function, 
 use Rattle.scope.specs.declared.Rung.{Rung}
 use Rattle.scope.specs.declared.Scope.{Scope}
 use Rattle.scope.specs.declared.Path.{Path}
-use Rattle.scope.specs.declared.Compared.{Compared}
-use Rattle.scope.specs.declared.Compared.TheVariants.{Less, Equal, Greater, Unordered, Refused}
 
 abbrev pub told_kind : ScopeType → meaning.ScopeType
 told_kind Entity = meaning.ScopeType.entity
@@ -24,13 +22,12 @@ told_kind Schema = meaning.ScopeType.schema
 told_kind SubType = meaning.ScopeType.sub_type
 told_kind «Type» = meaning.ScopeType.type
 
--- the left scope against the right one; or why they are not compared
-unfoldable pub told_compared : Compared → Answer Comparison
-told_compared Less = done meaning.Comparison.less
-told_compared Equal = done meaning.Comparison.equal
-told_compared Greater = done meaning.Comparison.greater
-told_compared Unordered = done meaning.Comparison.unordered
-told_compared (Refused why) = told_refusal why
+-- the left scope against the right one
+unfoldable pub told_compared : Option Ordering → Comparison
+told_compared (Some Less) = meaning.Comparison.less
+told_compared (Some Equal) = meaning.Comparison.equal
+told_compared (Some Greater) = meaning.Comparison.greater
+told_compared None = meaning.Comparison.unordered
 
 -- a step, a scope and a path, by the bytes that their names stand in
 unfoldable pub told_step : List ℕ → Rung → meaning.Step

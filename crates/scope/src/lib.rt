@@ -5,17 +5,16 @@
 
 ghost use Rattle.std.specs.Prelude.{◌≡◌};
 ghost use Rattle.sheet.specs.Told.{told_reading};
-ghost use Rattle.scope.specs.MeaningNames.{same_bytes, same_name};
+ghost use Rattle.scope.specs.MeaningNames.{same_name};
 ghost use Rattle.scope.specs.MeaningScope.{place_of, steps_equal, starts, compared};
 ghost use Rattle.scope.specs.Told.{told_kind, told_compared, told_step, told_scope};
 ghost use Rattle.scope.specs.Held.{no_rung, scope_0};
 ghost use Rattle.scope.specs.MirrorScope.{Spans, Fits, pushed_on, popped_from, last_of};
-ghost use Rattle.refusal.specs.MeaningAnswer.{done};
 
-use refusal::Refusal;
 use sheet::Reading;
+use std::cmp::Ordering;
 
-#[derive(Clone, Copy)]
+#[derive(Clone, Copy, Debug, PartialEq, Eq)]
 pub enum ScopeType {
     Entity,
     Alias,
@@ -37,7 +36,7 @@ pub struct Rung {
     pub stop: usize,
 }
 
-// The steps from the outermost on; past the last one stand zeros.
+// The steps from the outermost on; past the last one stand zeros. They are fields, since scopes and paths hold no arrays (docs/ARCHITECTURE.md).
 #[derive(Clone, Copy)]
 pub struct Scope {
     pub count: usize,
@@ -52,45 +51,12 @@ pub struct Path {
     pub item: Rung,
 }
 
-#[derive(Clone, Copy)]
-pub enum Pushed {
-    Onto(Scope),
-    Full,
-}
-
-#[derive(Clone, Copy)]
-pub enum Popped {
-    Outer(Scope),
-    Root,
-}
-
-// The left scope against the right one, or why they are not compared.
-#[derive(Clone, Copy)]
-pub enum Compared {
-    Less,
-    Equal,
-    Greater,
-    Unordered,
-    Refused(Refusal),
-}
-
 impl ScopeType {
     // Its place in the declaration.
     pub fn place(self) -> u8
         ensures { result ≡ place_of (told_kind self) }
     {
-        match self {
-            ScopeType::Entity => 0,
-            ScopeType::Alias => 1,
-            ScopeType::Function => 2,
-            ScopeType::Procedure => 3,
-            ScopeType::Query => 4,
-            ScopeType::Repeat => 5,
-            ScopeType::Rule => 6,
-            ScopeType::Schema => 7,
-            ScopeType::SubType => 8,
-            ScopeType::Type => 9,
-        }
+        self as u8
     }
 }
 
@@ -121,80 +87,62 @@ impl Scope {
     }
 
     // The scope with one step more, unless it is full.
-    pub fn pushed(self, kind: ScopeType, start: usize, stop: usize) -> Pushed
-        ensures { result ≡ pushed_on self (record { kind = kind; start = start; stop = stop }) }
+    #[tactic(auto, unfolding(crate::specs::MirrorScope::pushed_on))]
+    pub fn pushed(self, rung: Rung) -> Option<Self>
+        ensures { result ≡ pushed_on self rung }
     {
-        let none = Rung::none();
-        let rung = Rung { kind, start, stop };
-        let one = self.one;
-        let two = self.two;
-        if self.count == 0 {
-            return Pushed::Onto(Self {
+        match self.count {
+            0 => Some(Self {
                 count: 1,
                 one: rung,
-                two: none,
-                three: none,
-            });
-        }
-        if self.count == 1 {
-            return Pushed::Onto(Self {
+                ..Self::root()
+            }),
+            1 => Some(Self {
                 count: 2,
-                one,
+                one: self.one,
                 two: rung,
-                three: none,
-            });
-        }
-        if self.count == 2 {
-            return Pushed::Onto(Self {
+                ..Self::root()
+            }),
+            2 => Some(Self {
                 count: 3,
-                one,
-                two,
                 three: rung,
-            });
+                ..self
+            }),
+            _ => None,
         }
-        Pushed::Full
     }
 
     // The scope without its last step, unless it is the root.
-    pub fn popped(self) -> Popped
+    #[tactic(auto, unfolding(crate::specs::MirrorScope::popped_from))]
+    pub fn popped(self) -> Option<Self>
         ensures { result ≡ popped_from self }
     {
-        let none = Rung::none();
-        let one = self.one;
-        let two = self.two;
-        if self.count == 0 {
-            return Popped::Root;
-        }
-        if self.count == 1 {
-            return Popped::Outer(Self::root());
-        }
-        if self.count == 2 {
-            return Popped::Outer(Self {
+        match self.count {
+            0 => None,
+            1 => Some(Self::root()),
+            2 => Some(Self {
                 count: 1,
-                one,
-                two: none,
-                three: none,
-            });
+                one: self.one,
+                ..Self::root()
+            }),
+            _ => Some(Self {
+                count: 2,
+                three: Rung::none(),
+                ..self
+            }),
         }
-        Popped::Outer(Self {
-            count: 2,
-            one,
-            two,
-            three: none,
-        })
     }
 
-    // The last step; the root has zeros there.
+    // The last step; the root has zeros there, since it has never failed (docs/PROMISES.md).
+    #[tactic(auto, unfolding(crate::specs::MirrorScope::last_of))]
     pub fn last(self) -> Rung
         ensures { result ≡ last_of self }
     {
-        if self.count == 1 {
-            return self.one;
+        match self.count {
+            1 => self.one,
+            2 => self.two,
+            _ => self.three,
         }
-        if self.count == 2 {
-            return self.two;
-        }
-        self.three
     }
 }
 
@@ -214,90 +162,53 @@ impl Path {
 }
 
 // Whether two names are equal. Nothing else compares the bytes of names.
+#[tactic(auto, using(crate::proofs::Equality::bytewise), unfolding(crate::specs::MeaningNames::same_name, sheet::specs::Told::told_reading))]
 pub fn same_name(reading: Reading, a: &[u8], b: &[u8]) -> bool
     ensures { result ≡ same_name (told_reading reading) a.now b.now }
 {
     match reading {
-        Reading::Rust => same_bytes(a, b),
+        Reading::Rust => a == b,
     }
-}
-
-fn same_bytes(a: &[u8], b: &[u8]) -> bool
-    ensures { result ≡ same_bytes a.now b.now }
-{
-    if a.len() != b.len() {
-        return false;
-    }
-    let mut i: usize = 0;
-    while i < a.len() {
-        if a[i] != b[i] {
-            return false;
-        }
-        i += 1;
-    }
-    true
 }
 
 // ---- The partial order.
 
 // Whether two steps are equal, each in the bytes that its name stands in.
+#[tactic(auto, unfolding(crate::specs::MeaningScope::steps_equal, crate::specs::Told::told_step))]
 pub fn same_step(reading: Reading, s: &[u8], a: Rung, t: &[u8], b: Rung) -> bool
     requires { Spans s.now a × Spans t.now b }
     ensures { result ≡ steps_equal (told_reading reading) (told_step s.now a) (told_step t.now b) }
 {
-    let x = a.kind;
-    let y = b.kind;
-    if x.place() != y.place() {
+    if a.kind != b.kind {
         return false;
     }
-    let start = a.start;
-    let stop = a.stop;
-    let from = b.start;
-    let to = b.stop;
-    same_name(reading, &s[start..stop], &t[from..to])
+    same_name(reading, &s[a.start..a.stop], &t[b.start..b.stop])
 }
 
 // Whether the second scope starts with the first.
+#[tactic(auto, using(crate::proofs::Precedence::starting))]
 fn starts_with(reading: Reading, s: &[u8], a: Scope, t: &[u8], b: Scope) -> bool
     requires { Fits s.now a × Fits t.now b }
     ensures { result ≡ starts (told_reading reading) (told_scope s.now a) (told_scope t.now b) }
 {
-    let n = a.count;
-    if b.count < n {
-        return false;
-    }
-    if n == 0 {
-        return true;
-    }
-    if !same_step(reading, s, a.one, t, b.one) {
-        return false;
-    }
-    if n == 1 {
-        return true;
-    }
-    if !same_step(reading, s, a.two, t, b.two) {
-        return false;
-    }
-    if n == 2 {
-        return true;
-    }
-    same_step(reading, s, a.three, t, b.three)
+    a.count <= b.count
+        && (a.count < 1 || same_step(reading, s, a.one, t, b.one))
+        && (a.count < 2 || same_step(reading, s, a.two, t, b.two))
+        && (a.count < 3 || same_step(reading, s, a.three, t, b.three))
 }
 
-// One scope against another: each starts the other where they are equal.
-pub fn compare(reading: Reading, s: &[u8], a: Scope, t: &[u8], b: Scope) -> Compared
+// One scope against another: each starts the other where they are equal, and they have no order where neither does.
+#[tactic(auto, unfolding(crate::specs::MeaningScope::compared, crate::specs::Told::told_compared))]
+pub fn compare(reading: Reading, s: &[u8], a: Scope, t: &[u8], b: Scope) -> Option<Ordering>
     requires { Fits s.now a × Fits t.now b }
-    ensures { told_compared result ≡ done (compared (told_reading reading) (told_scope s.now a) (told_scope t.now b)) }
+    ensures { told_compared result ≡ compared (told_reading reading) (told_scope s.now a) (told_scope t.now b) }
 {
-    let below = starts_with(reading, t, b, s, a);
-    if starts_with(reading, s, a, t, b) {
-        if below {
-            return Compared::Equal;
-        }
-        return Compared::Greater;
+    let starts = starts_with(reading, s, a, t, b);
+    let started = starts_with(reading, t, b, s, a);
+    match (starts, started) {
+        (true, true) => Some(Ordering::Equal),
+        (true, false) => Some(Ordering::Greater),
+        (false, true) => Some(Ordering::Less),
+        (false, false) => None,
     }
-    if below {
-        return Compared::Less;
-    }
-    Compared::Unordered
 }

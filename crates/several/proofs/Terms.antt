@@ -4,8 +4,11 @@ use mathlib.Core.Path.{◌≡◌, refl, sym, ap, ◌∙◌}
 use mathlib.Core.List.{List, [], ◌∷◌, ◌++◌}
 use native.Mathlib.Omega.{arith}
 use lib.ListN.{length, get_or, take, drop, length-append, length-drop}
-use lib.Seq.{drop-drop, length-take-le}
+use lib.Seq.{length-take-le}
 use Rattle.refusal.specs.MeaningAnswer.{Answer, done, refused, ◌>>=◌}
+use Rattle.std.specs.Prelude.{Result, Ok, Err}
+use Rattle.refusal.specs.Told.{number_of, told_refusal}
+use Rattle.refusal.specs.declared.Reason.TheVariants.{TooFewTerms}
 use Rattle.refusal.specs.declared.Refusal.{Refusal}
 use Rattle.complex_entity.specs.MeaningRising.{here, there}
 use Rattle.complex_entity.specs.MeaningParts.{Part}
@@ -15,29 +18,27 @@ use Rattle.complex_entity.proofs.Orders.{part_order}
 use Rattle.complex_entity.proofs.Members.{joined, joins_old, join_rising}
 use Rattle.complex_entity.proofs.Limits.{held_done}
 use Rattle.instantiables.specs.declared.Instantiables.{Instantiables}
-use Rattle.instantiables.specs.declared.Listed.{Listed}
-use Rattle.instantiables.specs.declared.Listed.TheVariants.{Rows, Refused}
 use Rattle.rows.specs.MirrorRows.{parts_at, Stands}
 use Rattle.instantiables.specs.MirrorRows.{lists_at, sum, Sets, AllSets, Listing}
 use Rattle.instantiables.specs.Told.{told_listed}
 use Rattle.rows.proofs.Flats.{parts_length}
-use Rattle.instantiables.proofs.Listings.{tail_is, stands_put, put_parts, put_long, put_stands, Got, listing_got, listing_over, listing_refused, listing_done}
+use Rattle.instantiables.proofs.Listings.{tail_is, stands_put, put_parts, put_stands, Got, listing_got, listing_over, listing_refused, listing_done}
 use Rattle.instantiables.proofs.Factors.{copied, copied_room, copied_sets}
-use Rattle.several.proofs.Walks.{Walking, rest, walk_start, walk_done, walk_first, walk_next}
+use Rattle.several.proofs.Walks.{Walking, rest, behind, walk_start, walk_done, walk_first, walk_next, walk_room}
 
 pub bitand_sets : (L K : List Part) → Sets (bitand L K)
 bitand_sets L K q m = elim (joins_old L K (tidy_old part_order (joins L K) m)) [ joined {p = a} {q = b} i j e ↦ rw e (join_rising a b) ]
 
 -- ---- one term K more, by a call
-module _ (L K : List Part) (Ks : List (List Part)) (o : Answer (List Part)) (w : prefixes L (K ∷ Ks) ≡ o) (rows rows' : List ℕ) (r : Listed) (g : Listing (held (bitand L K)) rows rows' (told_listed r)) where
-  pub term_over : (why : Refusal) → r ≡ Refused why → Listing o rows' rows' (told_listed r)
+module _ (L K : List Part) (Ks : List (List Part)) (o : Answer (List Part)) (w : prefixes L (K ∷ Ks) ≡ o) (rows rows' : List ℕ) (r : Result Instantiables Refusal) (g : Listing (held (bitand L K)) rows rows' (told_listed r)) where
+  pub term_over : (why : Refusal) → r ≡ Err why → Listing o rows' rows' (told_listed r)
   unfolding prefixes
   term_over why u =
-      let x = listing_over (bitand L K) rows rows' (told_listed r) g why.number why.place (ap told_listed u) in
+      let x = listing_over (bitand L K) rows rows' (told_listed r) g (number_of why.reason) why.place (ap told_listed u) in
       let z : o ≡ refused 11 0 = sym w ∙ ap (λ (a : Answer (List Part)). a >>= λ J. prefixes J Ks) x.0 in
       rw x.1 (listing_refused o rows' rows' 11 0 z)
 
-  module _ (l : Instantiables) (u : r ≡ Rows l) where
+  module _ (l : Instantiables) (u : r ≡ Ok l) where
     got : Got (bitand L K) rows rows' l.count
     got = listing_got (bitand L K) rows rows' (told_listed r) g l.count (ap told_listed u)
 
@@ -46,9 +47,6 @@ module _ (L K : List Part) (Ks : List (List Part)) (o : Answer (List Part)) (w :
 
     pub term_stands : 1664 ≤ length rows → Stands rows' l.count
     term_stands h = rw (← got.count) (put_stands (bitand L K) rows rows' got.slim got.put got.small h (tidy_rising part_order (joins L K)))
-
-    pub term_long : 1664 ≤ length rows → length rows' ≡ length rows
-    term_long h = put_long (bitand L K) rows rows' got.slim got.put (omega (arith, got.small))
 
     pub term_sets : Sets (parts_at l.count rows')
     term_sets = rw parts (bitand_sets L K)
@@ -59,39 +57,31 @@ module _ (L K : List Part) (Ks : List (List Part)) (o : Answer (List Part)) (w :
         rw parts (sym (ap (λ (a : Answer (List Part)). a >>= λ J. prefixes J Ks) (held_done (bitand L K) got.small got.slim)) ∙ w)
 
 -- ---- the loop of `and_more`
-pub record Prefixing (counts lists rows₀ scratch₀ rows scratch : List ℕ) (n at i : ℕ) (o : Answer (List Part)) : Type 0 where
-  pub walk : Walking counts lists at i
+pub record Prefixing (counts lists rows scratch : List ℕ) (n i : ℕ) (o : Answer (List Part)) : Type 0 where
+  pub walk : Walking counts lists i
   pub spare : 1664 ≤ length scratch
-  pub long : length rows ≡ length rows₀
-  pub old_long : length scratch ≡ length scratch₀
   pub stands : Stands rows n
   pub sets : Sets (parts_at n rows)
-  pub terms : AllSets (rest counts lists at i)
-  pub whole : prefixes (parts_at n rows) (rest counts lists at i) ≡ o
+  pub terms : AllSets (rest counts lists i)
+  pub whole : prefixes (parts_at n rows) (rest counts lists i) ≡ o
 
 pub prefix_start : (counts lists rows scratch : List ℕ) (n : ℕ) → Stands rows n → 1664 ≤ length scratch → 13 * sum counts ≤ length lists → Sets (parts_at n rows) → AllSets (lists_at counts lists)
-    → Prefixing counts lists rows scratch rows scratch n 0 0 (prefixes (parts_at n rows) (lists_at counts lists))
-prefix_start counts lists rows scratch n h k w s t = record { walk = walk_start counts lists w; spare = k; long = refl; old_long = refl; stands = h; sets = s; terms = t; whole = refl }
+    → Prefixing counts lists rows scratch n 0 (prefixes (parts_at n rows) (lists_at counts lists))
+prefix_start counts lists rows scratch n h k w s t = record { walk = walk_start counts lists w; spare = k; stands = h; sets = s; terms = t; whole = refl }
 
-module _ (counts lists rows₀ scratch₀ rows scratch : List ℕ) (n at i : ℕ) (o : Answer (List Part)) (f : Prefixing counts lists rows₀ scratch₀ rows scratch n at i o) where
-  pub prefix_long : length rows ≡ length rows₀
-  prefix_long = f.long
-
-  pub prefix_old : length scratch ≡ length scratch₀
-  prefix_old = f.old_long
-
+module _ (counts lists rows scratch : List ℕ) (n i : ℕ) (o : Answer (List Part)) (f : Prefixing counts lists rows scratch n i o) where
   pub prefix_done : length counts ≤ i → Listing o rows rows (done n)
   unfolding prefixes
   prefix_done h =
       listing_done o (parts_at n rows) rows rows n
-      (sym f.whole ∙ ap (prefixes (parts_at n rows)) (walk_done counts lists at i f.walk h)) (parts_length n rows) (stands_put rows rows n f.stands refl)
+      (sym f.whole ∙ ap (prefixes (parts_at n rows)) (walk_done counts lists i f.walk h)) (parts_length n rows) (stands_put rows rows n f.stands refl)
 
-  module _ (h : i < length counts) where
-    first : rest counts lists at i ≡ parts_at (get_or counts i 0) (take (length lists - at) (drop at lists)) ∷ rest counts lists (at + 13 * get_or counts i 0) (i + 1)
-    first = rw (tail_is lists at) (walk_first counts lists at i f.walk h)
+  module _ (h : i < length counts) (k : ℕ) (ek : k ≡ get_or counts i 0) where
+    pub prefix_room : 13 * k ≤ length lists
+    prefix_room = walk_room counts lists i f.walk h k ek
 
-    pub prefix_term : Sets (parts_at (get_or counts i 0) (take (length lists - at) (drop at lists)))
-    prefix_term = f.terms _ (rw first (here refl))
+    pub prefix_term : Sets (parts_at k lists)
+    prefix_term = f.terms _ (rw (walk_first counts lists i f.walk h k ek) (here refl))
 
     -- the list so far was copied
     module _ (scratch' : List ℕ) (e : scratch' ≡ take (13 * n) rows ++ drop (13 * n) scratch) where
@@ -106,41 +96,39 @@ module _ (counts lists rows₀ scratch₀ rows scratch : List ℕ) (n at i : ℕ
           let a : length (take (13 * n) rows) ≡ 13 * n = length-take-le (13 * n) rows (omega (arith, f.stands.small, f.stands.room)) in
           omega (arith, ap length e, length-append (take (13 * n) rows) (drop (13 * n) scratch), a, length-drop (13 * n) scratch, f.spare, f.stands.small)
 
-      module _ (rows' : List ℕ) (r : Listed)
-          (g : Listing (held (bitand (parts_at n scratch') (parts_at (get_or counts i 0) (take (length lists - at) (drop at lists))))) rows rows' (told_listed r)) where
+      module _ (rows' : List ℕ) (r : Result Instantiables Refusal)
+          (g : Listing (held (bitand (parts_at n scratch') (parts_at k lists))) rows rows' (told_listed r)) where
         T : List Part
-        T = parts_at (get_or counts i 0) (take (length lists - at) (drop at lists))
+        T = parts_at k lists
 
         Ts : List (List Part)
-        Ts = rest counts lists (at + 13 * get_or counts i 0) (i + 1)
+        Ts = rest counts (behind k lists) (i + 1)
 
         turn : prefixes (parts_at n scratch') (T ∷ Ts) ≡ o
         unfolding T Ts
-        turn = rw (copied rows scratch' scratch n f.stands e) (sym (ap (prefixes (parts_at n rows)) first) ∙ f.whole)
+        turn = rw (copied rows scratch' scratch n f.stands e) (sym (ap (prefixes (parts_at n rows)) (walk_first counts lists i f.walk h k ek)) ∙ f.whole)
 
-        pub prefix_over : (why : Refusal) → r ≡ Refused why → Listing o rows' rows' (told_listed r)
+        pub prefix_over : (why : Refusal) → r ≡ Err why → Listing o rows' rows' (told_listed r)
         unfolding T
         prefix_over why u = term_over (parts_at n scratch') T Ts o turn rows rows' r g why u
 
-        pub prefix_next : (l : Instantiables) → r ≡ Rows l → Prefixing counts lists rows₀ scratch₀ rows' scratch' l.count (at + 13 * get_or counts i 0) (i + 1) o
+        pub prefix_next : (l : Instantiables) → r ≡ Ok l → Prefixing counts (behind k lists) rows' scratch' l.count (i + 1) o
         unfolding T Ts
         prefix_next l u =
             record {
-              walk = walk_next counts lists at i f.walk h;
+              walk = walk_next counts lists i f.walk h k ek;
               spare = omega (arith, kept, f.spare);
-              long = term_long (parts_at n scratch') T Ts o turn rows rows' r g l u f.stands.room ∙ f.long;
-              old_long = kept ∙ f.old_long;
               stands = term_stands (parts_at n scratch') T Ts o turn rows rows' r g l u f.stands.room;
               sets = term_sets (parts_at n scratch') T Ts o turn rows rows' r g l u;
-              terms = λ K m. f.terms K (rw first (there m));
+              terms = λ K m. f.terms K (rw (walk_first counts lists i f.walk h k ek) (there m));
               whole = term_next (parts_at n scratch') T Ts o turn rows rows' r g l u;
             }
 
-pub ruleset prefixing = (prefix_start, prefix_long, prefix_old, prefix_done, prefix_term, prefix_copied, prefix_sets, prefix_next, prefix_over)
+pub ruleset prefixing = (prefix_start, prefix_done, prefix_room, prefix_term, prefix_copied, prefix_sets, prefix_next, prefix_over)
 
 -- ---- the first two terms
-pub and_few : (counts lists rows : List ℕ) (r : Listed) → length counts < 2 → r ≡ Refused (record { number = 9; place = 0 })
-    → Listing (and_of (lists_at counts lists)) rows rows (told_listed r)
+pub and_few : (counts lists rows : List ℕ) (w : Refusal) → length counts < 2 → w ≡ record { reason = TooFewTerms; place = 0 }
+    → Listing (and_of (lists_at counts lists)) rows rows (told_refusal w)
 unfolding and_of lists_at
 and_few [] lists rows r h e = rw e (record { says = refl; stands = tt })
 and_few (a ∷ []) lists rows r h e = rw e (record { says = refl; stands = tt })
@@ -153,48 +141,46 @@ sum_two (a ∷ []) h = absurd (omega arith)
 sum_two (a ∷ b ∷ counts) h = refl
 
 lists_two : (counts lists : List ℕ) → 2 ≤ length counts
-    → lists_at counts lists ≡ parts_at (get_or counts 0 0) lists ∷ parts_at (get_or counts 1 0) (drop (13 * get_or counts 0 0) lists) ∷ rest counts lists (13 * get_or counts 0 0 + 13 * get_or counts 1 0) 2
+    → lists_at counts lists ≡ parts_at (get_or counts 0 0) lists ∷ parts_at (get_or counts 1 0) (drop (13 * get_or counts 0 0) lists) ∷ lists_at (drop 2 counts) (drop (13 * get_or counts 1 0) (drop (13 * get_or counts 0 0) lists))
 unfolding lists_at
 lists_two [] lists h = absurd (omega arith)
 lists_two (a ∷ []) lists h = absurd (omega arith)
-lists_two (a ∷ b ∷ counts) lists h = rw (drop-drop (13 * b) (13 * a) lists)
+lists_two (a ∷ b ∷ counts) lists h = refl
 
-module _ (counts lists : List ℕ) (h : 2 ≤ length counts) (k : 13 * sum counts ≤ length lists) where
-  pub and_inside : 13 * get_or counts 0 0 + 13 * get_or counts 1 0 ≤ length lists
-  and_inside = omega (arith, sum_two counts h)
+-- a rows are the first list's, and b the second's
+module _ (counts lists : List ℕ) (a b : ℕ) (ea : a ≡ get_or counts 0 0) (eb : b ≡ get_or counts 1 0) (h : 2 ≤ length counts) where
+  module _ (k : 13 * sum counts ≤ length lists) where
+    total : 13 * a + 13 * b + 13 * sum (drop 2 counts) ≤ length lists
+    total = omega (arith, sum_two counts h)
 
-  pub and_first : 13 * get_or counts 0 0 ≤ length lists
-  and_first = omega (arith, and_inside)
+    pub and_first : 13 * a ≤ length lists
+    and_first = omega (arith, total)
 
-  pub and_second : 13 * get_or counts 1 0 ≤ length (take (length lists - 13 * get_or counts 0 0) (drop (13 * get_or counts 0 0) lists))
-  and_second = rw (tail_is lists (13 * get_or counts 0 0), length-drop (13 * get_or counts 0 0) lists) (omega (arith, and_inside))
+    pub and_second : 13 * b ≤ length (behind a lists)
+    and_second = rw (tail_is lists (13 * a), length-drop (13 * a) lists) (omega (arith, total))
 
-  pub and_further : 13 * sum (take (length counts - 2) (drop 2 counts))
-      ≤ length (take (length lists - (13 * get_or counts 0 0 + 13 * get_or counts 1 0)) (drop (13 * get_or counts 0 0 + 13 * get_or counts 1 0) lists))
-  and_further =
-      rw (tail_is counts 2, tail_is lists (13 * get_or counts 0 0 + 13 * get_or counts 1 0), length-drop (13 * get_or counts 0 0 + 13 * get_or counts 1 0) lists)
-      (omega (arith, sum_two counts h))
+    pub and_further : 13 * sum (take (length counts - 2) (drop 2 counts)) ≤ length (behind b (behind a lists))
+    and_further =
+        rw (tail_is counts 2, tail_is lists (13 * a), tail_is (drop (13 * a) lists) (13 * b), length-drop (13 * b) (drop (13 * a) lists), length-drop (13 * a) lists)
+        (omega (arith, total))
 
-module _ (counts lists : List ℕ) (h : 2 ≤ length counts) where
   abbrev one : List Part
-  one = parts_at (get_or counts 0 0) lists
+  one = parts_at a lists
 
   abbrev two : List Part
-  two = parts_at (get_or counts 1 0) (take (length lists - 13 * get_or counts 0 0) (drop (13 * get_or counts 0 0) lists))
+  two = parts_at b (behind a lists)
 
   abbrev others : List (List Part)
-  others =
-      lists_at (take (length counts - 2) (drop 2 counts))
-      (take (length lists - (13 * get_or counts 0 0 + 13 * get_or counts 1 0)) (drop (13 * get_or counts 0 0 + 13 * get_or counts 1 0) lists))
+  others = lists_at (take (length counts - 2) (drop 2 counts)) (behind b (behind a lists))
 
   terms_are : lists_at counts lists ≡ one ∷ two ∷ others
-  terms_are = rw (tail_is counts 2, tail_is lists (13 * get_or counts 0 0), tail_is lists (13 * get_or counts 0 0 + 13 * get_or counts 1 0)) (lists_two counts lists h)
+  terms_are = rw (tail_is counts 2, tail_is lists (13 * a), tail_is (drop (13 * a) lists) (13 * b), ea, eb) (lists_two counts lists h)
 
   module _ (s : AllSets (lists_at counts lists)) where
-    pub and_first_sets : Sets (parts_at (get_or counts 0 0) lists)
+    pub and_first_sets : Sets (parts_at a lists)
     and_first_sets = s one (rw terms_are (here refl))
 
-    pub and_second_sets : Sets (parts_at (get_or counts 1 0) (take (length lists - 13 * get_or counts 0 0) (drop (13 * get_or counts 0 0) lists)))
+    pub and_second_sets : Sets (parts_at b (behind a lists))
     and_second_sets = s two (rw terms_are (there (here refl)))
 
     pub and_further_sets : AllSets others
@@ -204,11 +190,11 @@ module _ (counts lists : List ℕ) (h : 2 ≤ length counts) where
   unfolding and_of
   start = sym (ap and_of terms_are)
 
-  module _ (rows rows' : List ℕ) (r : Listed) (g : Listing (held (bitand one two)) rows rows' (told_listed r)) where
-    pub and_over : (why : Refusal) → r ≡ Refused why → Listing (and_of (lists_at counts lists)) rows' rows' (told_listed r)
+  module _ (rows rows' : List ℕ) (r : Result Instantiables Refusal) (g : Listing (held (bitand one two)) rows rows' (told_listed r)) where
+    pub and_over : (why : Refusal) → r ≡ Err why → Listing (and_of (lists_at counts lists)) rows' rows' (told_listed r)
     and_over why u = term_over one two others _ start rows rows' r g why u
 
-    module _ (l : Instantiables) (u : r ≡ Rows l) where
+    module _ (l : Instantiables) (u : r ≡ Ok l) where
       pub and_stands : 1664 ≤ length rows → Stands rows' l.count
       and_stands k = term_stands one two others _ start rows rows' r g l u k
 

@@ -7,6 +7,8 @@ use native.Mathlib.Omega.{arith}
 use borrow.Author.Tests.{eqb-true, eqb-false, ltb-true, ltb-false}
 use lib.Dec.{eqb, ltb}
 use lib.ListN.{length, length-take, length-drop}
+use Rattle.std.specs.Prelude.{Option, Some, None}
+use Rattle.refusal.specs.MeaningAnswer.{Answer, done, refused}
 use Rattle.grammar.specs.MeaningReading.{Reading, answers}
 use Rattle.grammar.specs.MeaningReading.Reading.{rust}
 use Rattle.sheet.specs.MeaningName.{is_name}
@@ -18,14 +20,11 @@ use Rattle.sheet.specs.MeaningSheet.Open.{within}
 use Rattle.sheet.specs.MeaningSheet.Wrong.{passes, bad_tag, bad_simple, full, missing, bad_name, limit, depth, forbidden}
 use Rattle.grammar.specs.MirrorTable.{row_count, cell_at, row_of, answer_at}
 use Rattle.sheet.specs.MirrorField.{field_at}
-use Rattle.sheet.specs.MirrorCheck.{value_fault, depth_fault, or_next, field_fault, count_up, stop_at, at_end, go_on, on_count, on_fault, on_header, step_at}
-use Rattle.sheet.specs.declared.Header.{Header}
-use Rattle.sheet.specs.declared.Header.TheVariants.{Passes}
+use Rattle.sheet.specs.MirrorCheck.{value_fault, depth_fault, or_next, field_fault, count_up, at_end, go_on, on_count, on_fault, on_field, step_at}
+use Rattle.sheet.specs.declared.Field.{Field}
 use Rattle.sheet.specs.declared.Counts.{Counts}
-use Rattle.sheet.specs.declared.Counted.{Counted}
-use Rattle.sheet.specs.declared.Counted.TheVariants.{Within, Over}
 use Rattle.sheet.specs.declared.Step.{Step}
-use Rattle.sheet.specs.declared.Step.TheVariants.{Done, Past, Into, Stop}
+use Rattle.sheet.specs.declared.Step.TheVariants.{Done, Past, Into}
 use Rattle.grammar.proofs.Choosing.{either, clash, opposed}
 use Rattle.grammar.proofs.Tabulated.{Fit, no_row, end_row, no_end, next_fit, new_fit, goes_on, class_of, level_of, answer_of_law}
 use Rattle.sheet.proofs.Valuing.{fault_kind, value_is, holds_fields_law, holds_none}
@@ -165,13 +164,13 @@ module _ (rd : Reading) (s : List ℕ) (p e : ℕ) (es : List ℕ) (os : List Op
   many constraints = refl
   many terms = refl
 
-  abbrev CountSays : Counted → Type 0
-  CountSays Over = W 5
-  CountSays (Within c1) = Room × (c1 ≡ counts_of ((p, t) ∷ fs))
+  abbrev CountSays : Option Counts → Type 0
+  CountSays None = W 5
+  CountSays (Some c1) = Room × (c1 ≡ counts_of ((p, t) ∷ fs))
 
-  count_says : at < e → (x : Counted) → AllTallied p t (counts_of fs) x → CountSays x
-  count_says b Over (l, q) = limit b l q.0 (omega (arith, q.1, many l))
-  count_says b (Within c1) x = ((λ l q. omega (arith, (x l).1 q, many l)), same_counts c1 (counts_of ((p, t) ∷ fs)) (λ l. (x l).0 ∙ sym (many1 l)))
+  count_says : at < e → (x : Option Counts) → AllTallied p t (counts_of fs) x → CountSays x
+  count_says b None (l, q) = limit b l q.0 (omega (arith, q.1, many l))
+  count_says b (Some c1) x = ((λ l q. omega (arith, (x l).1 q, many l)), same_counts c1 (counts_of ((p, t) ∷ fs)) (λ l. (x l).0 ∙ sym (many1 l)))
 
   -- ---- the step
 
@@ -187,47 +186,50 @@ module _ (rd : Reading) (s : List ℕ) (p e : ℕ) (es : List ℕ) (os : List Op
   Judged (Done c1) = (at ≡ e) × (c1 ≡ counts_of fs) × ((n : ℕ) → W n → ⊥)
   Judged (Past c1 st1 b) = OverIt b st1 c1 × (kind_of t ≡ fields → ⊥)
   Judged (Into c1 st1 u d1 a b) = OverIt b st1 c1 × (kind_of t ≡ fields) × (u ≡ t) × (a ≡ at + 3) × Fit t [] 0 × (d1 ≡ most_depth - cond (one_of expressions t) (D + 1) D)
-  Judged (Stop r) = (r.place ≡ at) × W r.number × ((m : ℕ) → W m → r.number ≤ m)
+
+  abbrev pub JudgedIf : Answer Step → Type 0
+  JudgedIf (done x) = Judged x
+  JudgedIf (refused n q) = (q ≡ at) × W n × ((m : ℕ) → W m → n ≤ m)
 
   module _ (st : ℕ) (F : Fit p es st) (byte : t < 256) (small : length s ≤ most_bytes) (end : e ≤ length s) where
     abbrev R : ℕ
     R = row_of p st t
 
     -- what the step does where the field by itself has the fault n
-    abbrev on_f : ℕ → Step
+    abbrev on_f : ℕ → Answer Step
     on_f n = on_fault at (most_depth - D) (counts_of fs) t (at + 3) (end_of s at) R n
 
     module _ (h : ltb R row_count ≡ true) where
-      on_count_law : Fine → Named → Shallow → (k : Counted) → CountSays k → Judged (on_count at (most_depth - D) t (at + 3) (end_of s at) R k)
-      unfolding on_count go_on stop_at
-      on_count_law G N S Over x = (refl, x, from5 G N)
-      on_count_law G N S (Within c1) x =
+      on_count_law : Fine → Named → Shallow → (k : Option Counts) → CountSays k → JudgedIf (on_count at (most_depth - D) t (at + 3) (end_of s at) R k)
+      unfolding on_count go_on
+      on_count_law G N S None x = (refl, x, from5 G N)
+      on_count_law G N S (Some c1) x =
           let o : OverIt (end_of s at) (cell_at R 4) c1 = record { before = G.before; whole = G.whole; ends = refl; fit = next_fit p st t byte h es F; count = x.1; right = nothing G N S x.0 } in
           let d : most_depth - D - cell_at R 9 ≡ most_depth - cond (one_of expressions t) (D + 1) D = rw (level_of p st t byte h) (cond_minus (one_of expressions t) D) in
           either Judged (eqb (cell_at R 7) 0) _ _
           (λ q. (o, holds_fields_law p st t byte h q, refl, refl, new_fit p st t byte h (holds_fields_law p st t byte h q), d))
           (λ q. (o, holds_none p st t byte h q))
 
-      on_depth : Fine → Named → Judged (on_f (depth_fault (most_depth - D) R))
-      unfolding depth_fault on_fault stop_at
+      on_depth : Fine → Named → JudgedIf (on_f (depth_fault (most_depth - D) R))
+      unfolding depth_fault on_fault
       on_depth G N =
-          either (λ (n : ℕ). Judged (on_f n)) (ltb (most_depth - D) (cell_at R 9)) 5 0
+          either (λ (n : ℕ). JudgedIf (on_f n)) (ltb (most_depth - D) (cell_at R 9)) 5 0
           (λ q. let z = too_deep (one_of expressions t) (cell_at R 9) D (level_of p st t byte h) (ltb-true (most_depth - D) (cell_at R 9) q) in (refl, depth G.before z.0 z.1, from5 G N))
           (λ q.
           let S : Shallow = room_for (one_of expressions t) (cell_at R 9) D (level_of p st t byte h) (ltb-false (most_depth - D) (cell_at R 9) q) in
           on_count_law G N S (count_up (cell_at R 8) (counts_of fs)) (count_says G.before (count_up (cell_at R 8) (counts_of fs)) (all_tallied p t (counts_of fs) (cell_at R 8) (class_of p st t byte h))))
 
-      on_value : at < e → end_of s at ≤ e → (k : Kind) → kind_of t ≡ k → length v ≡ size_of s at → Judged (on_f (or_next (fault_kind k v) (depth_fault (most_depth - D) R)))
-      unfolding or_next on_fault stop_at
+      on_value : at < e → end_of s at ≤ e → (k : Kind) → kind_of t ≡ k → length v ≡ size_of s at → JudgedIf (on_f (or_next (fault_kind k v) (depth_fault (most_depth - D) R)))
+      unfolding or_next on_fault
       on_value b w name q l =
           let G : Fine = record { before = b; whole = w; allowed = goes_on p st t byte h es F; ok_simple = λ r. clash (cc); ok_empty = λ r. clash (cc) } in
-          either (λ (n : ℕ). Judged (on_f (or_next n (depth_fault (most_depth - D) R)))) (is_name v) 0 4 (λ r. on_depth G (λ _. r)) (λ r. (refl, bad_name b q r, from4 G))
+          either (λ (n : ℕ). JudgedIf (on_f (or_next n (depth_fault (most_depth - D) R)))) (is_name v) 0 4 (λ r. on_depth G (λ _. r)) (λ r. (refl, bad_name b q r, from4 G))
       on_value b w simple q l =
-          either (λ (n : ℕ). Judged (on_f (or_next n (depth_fault (most_depth - D) R)))) (holds_simple v) 0 3
+          either (λ (n : ℕ). JudgedIf (on_f (or_next n (depth_fault (most_depth - D) R)))) (holds_simple v) 0 3
           (λ r. on_depth (record { before = b; whole = w; allowed = goes_on p st t byte h es F; ok_simple = λ _. r; ok_empty = λ r. clash (cc) }) (λ r. clash (cc)))
           (λ r. (refl, bad_simple b q r, from3))
       on_value b w empty q l =
-          either (λ (n : ℕ). Judged (on_f (or_next n (depth_fault (most_depth - D) R)))) (eqb (length v) 0) 0 3
+          either (λ (n : ℕ). JudgedIf (on_f (or_next n (depth_fault (most_depth - D) R)))) (eqb (length v) 0) 0 3
           (λ r. on_depth (record { before = b; whole = w; allowed = goes_on p st t byte h es F; ok_simple = λ r. clash (cc); ok_empty = λ _. sym l ∙ eqb-true (length v) 0 r }) (λ r. clash (cc)))
           (λ r. (refl, full b q (positive (size_of s at) (λ z. eqb-false (length v) 0 r (l ∙ z))), from3))
       on_value b w fields q l =
@@ -236,10 +238,10 @@ module _ (rd : Reading) (s : List ℕ) (p e : ℕ) (es : List ℕ) (os : List Op
     size_of_law : end_of s at ≤ e → length v ≡ size_of s at
     size_of_law w = simp (length-take, length-drop) (omega arith)
 
-    on_field : at < e → end_of s at ≤ e → Judged (on_f (field_fault rd v R (most_depth - D)))
-    unfolding field_fault or_next on_fault stop_at
-    on_field b w =
-        either (λ (n : ℕ). Judged (on_f n)) (ltb R row_count) (or_next (answer_at rd R) (or_next (value_fault v R) (depth_fault (most_depth - D) R))) 3
+    field_law : at < e → end_of s at ≤ e → JudgedIf (on_f (field_fault rd v R (most_depth - D)))
+    unfolding field_fault or_next on_fault
+    field_law b w =
+        either (λ (n : ℕ). JudgedIf (on_f n)) (ltb R row_count) (or_next (answer_at rd R) (or_next (value_fault v R) (depth_fault (most_depth - D) R))) 3
         (λ h.
         let l = size_of_law w in
         let y = value_is p st t byte h v (omega arith) in
@@ -247,22 +249,22 @@ module _ (rd : Reading) (s : List ℕ) (p e : ℕ) (es : List ℕ) (os : List Op
         rw (z, y) (on_value h b w (kind_of t) refl l))
         (λ h. (refl, bad_tag b (no_row p es st t F h), from3))
 
-    pub judged : at ≤ e → Judged (step_at rd s p st at e (most_depth - D) (counts_of fs))
-    unfolding step_at at_end on_header field_at stop_at
+    pub judged : at ≤ e → JudgedIf (step_at rd s p st at e (most_depth - D) (counts_of fs))
+    unfolding step_at at_end on_field field_at
     judged k =
-        either Judged (eqb at e) _ _
+        either JudgedIf (eqb at e) _ _
         (λ q.
         let z = eqb-true at e q in
-        either Judged (ltb (row_of p st 256) row_count) (Done (counts_of fs)) (stop_at 3 e)
+        either JudgedIf (ltb (row_of p st 256) row_count) (done (Done (counts_of fs))) (refused 3 e)
         (λ h. (z, refl, at_end_law z (end_row p es st F h)))
         (λ h. (sym z, missing z (no_end p es st F h), from3)))
         (λ q.
         let b : at < e = less k (eqb-false at e q) in
-        either (λ (x : Header). Judged (on_header rd s p st at (most_depth - D) (counts_of fs) x)) (ltb (e - at) 3) Passes _
+        either (λ (x : Option Field). JudgedIf (on_field rd s p st at (most_depth - D) (counts_of fs) x)) (ltb (e - at) 3) None _
         (λ h. (refl, passes b (omega (arith, ltb-true (e - at) 3 h)), from3))
-        (λ h. either (λ (x : Header). Judged (on_header rd s p st at (most_depth - D) (counts_of fs) x)) (ltb (e - (at + 3)) (size_of s at)) Passes _
+        (λ h. either (λ (x : Option Field). JudgedIf (on_field rd s p st at (most_depth - D) (counts_of fs) x)) (ltb (e - (at + 3)) (size_of s at)) None _
         (λ g. (refl, passes b (omega (arith, ltb-false (e - at) 3 h, ltb-true (e - (at + 3)) (size_of s at) g)), from3))
         (λ g.
         let w : end_of s at ≤ e = omega (arith, ltb-false (e - at) 3 h, ltb-false (e - (at + 3)) (size_of s at) g) in
         let y : end_of s at - (at + 3) ≡ size_of s at = omega arith in
-        rw y (on_field b w))))
+        rw y (field_law b w))))

@@ -1,21 +1,20 @@
 -- The claims of specs/Claims.antt, and what `verdict` cites.
-use mathlib.Core.Path.{◌≡◌, refl, ap, ap₂, sym, ◌∙◌}
+use mathlib.Core.Path.{◌≡◌, refl, ap, ap₂, sym}
 use mathlib.Core.Logic.{inl, inr}
 use mathlib.Core.List.{List}
 use Prim.Native.Nat.{ℕ}
 use native.Mathlib.Omega.{arith}
 use Rattle.refusal.specs.declared.Refusal.{Refusal}
+use Rattle.std.specs.Prelude.{Result, Ok, Err}
 use Rattle.refusal.specs.MeaningAnswer.{Answer, done, refused}
+use Rattle.refusal.specs.Told.{number_of, told}
 use Rattle.refusal.proofs.Same.{same_refusal}
 use Rattle.grammar.specs.MeaningReading.{Reading}
 use Rattle.sheet.specs.MeaningSheet.{NotAfter, Is}
-use Rattle.sheet.specs.Told.{told}
 use Rattle.sheet.specs.Promises.{PromiseVerdict}
 use Rattle.sheet.specs.Claims.{AllBytes, OneVerdict, SomeVerdict, RefusesExactly, AcceptsExactly, ToldInjective, VerdictOnce}
 use Rattle.sheet.specs.MirrorCheck.{sheet_check}
 use Rattle.sheet.specs.declared.Counts.{Counts}
-use Rattle.sheet.specs.declared.Checked as checked
-use Rattle.sheet.specs.declared.Judgement.TheVariants.{Accepted, Refused}
 use Rattle.grammar.proofs.Choosing.{clash}
 use Rattle.sheet.proofs.FirstFault.{check_refuses, check_accepts}
 
@@ -34,9 +33,9 @@ one_verdict rd s (refused n p) (refused m q) x y = let e = antisym n p m q (x.1 
 pub some_verdict : SomeVerdict
 some_verdict rd s bytes = go (sheet_check rd s) refl
   where
-    go : (r : checked.Checked) → sheet_check rd s ≡ r → (v : Answer (Unit {0})) × Is rd s v
-    go (checked.TheVariants.Accepted c) q = (done tt, check_accepts rd s bytes c q)
-    go (checked.TheVariants.Refused r) q = (refused r.number r.place, check_refuses rd s bytes r q)
+    go : (r : Answer Counts) → sheet_check rd s ≡ r → (v : Answer (Unit {0})) × Is rd s v
+    go (done c) q = (done tt, check_accepts rd s bytes c q)
+    go (refused n p) q = (refused n p, check_refuses rd s bytes n p q)
 
 pub refuses_exactly : RefusesExactly
 unfolding PromiseVerdict
@@ -47,11 +46,10 @@ unfolding PromiseVerdict
 accepts_exactly rd s r h = (λ q. rw q at h, λ x. one_verdict rd s (told r) (done tt) h x)
 
 pub told_injective : ToldInjective
-unfolding told
-told_injective Accepted Accepted q = refl
-told_injective Accepted (Refused r') q = clash (cc)
-told_injective (Refused r) Accepted q = clash (cc)
-told_injective (Refused r) (Refused r') q = ap Refused (same_refusal r r' (cc) (cc))
+told_injective (Ok u) (Ok w) q = refl
+told_injective (Ok u) (Err r') q = clash (cc)
+told_injective (Err r) (Ok w) q = clash (cc)
+told_injective (Err r) (Err r') q = ap Err (same_refusal r r' (cc) (cc))
 
 pub verdict_once : VerdictOnce
 unfolding PromiseVerdict
@@ -59,11 +57,11 @@ verdict_once rd s r r' x y = told_injective r r' (one_verdict rd s (told r) (tol
 
 -- ---- what the check answers, `verdict` promises
 
-module _ (rd : Reading) (s : List ℕ) (bytes : AllBytes s) (r : checked.Checked) (q : r ≡ sheet_check rd s) where
-  pub verdict_accepted : (c : Counts) → r ≡ checked.TheVariants.Accepted c → PromiseVerdict rd s Accepted
-  unfolding PromiseVerdict told
-  verdict_accepted c h = check_accepts rd s bytes c (sym q ∙ h)
+module _ (rd : Reading) (s : List ℕ) (bytes : AllBytes s) (r : Result Counts Refusal) (q : told r ≡ sheet_check rd s) where
+  pub verdict_accepted : (c : Counts) → r ≡ Ok c → PromiseVerdict rd s (Ok tt)
+  unfolding PromiseVerdict
+  verdict_accepted c h = check_accepts rd s bytes c (rw h at (sym q))
 
-  pub verdict_refused : (x : Refusal) → r ≡ checked.TheVariants.Refused x → PromiseVerdict rd s (Refused x)
-  unfolding PromiseVerdict told
-  verdict_refused x h = check_refuses rd s bytes x (sym q ∙ h)
+  pub verdict_refused : (x : Refusal) → r ≡ Err x → PromiseVerdict rd s (Err x)
+  unfolding PromiseVerdict
+  verdict_refused x h = check_refuses rd s bytes (number_of x.reason) x.place (rw h at (sym q))

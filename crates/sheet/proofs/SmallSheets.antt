@@ -7,7 +7,7 @@ use native.Mathlib.Omega.{arith}
 use borrow.Author.Tests.{ltb-true}
 use lib.Dec.{ltb}
 use lib.ListN.{get_or}
-use Rattle.refusal.specs.MeaningAnswer.{Answer, done, refused}
+use Rattle.refusal.specs.MeaningAnswer.{Answer, done, refused, mapped}
 use Rattle.grammar.specs.MeaningReading.Reading.{rust}
 use Rattle.sheet.specs.MeaningName.{is_letter, is_name_byte, all_name_bytes, starts_with_letter, is_name}
 use Rattle.grammar.specs.MeaningGrammar.{grammar, slot, line, expressions, one_of, needed, slots_of, slots_in, Fills, kind_of}
@@ -19,23 +19,18 @@ use Rattle.sheet.specs.Claims.{AllBytes}
 use Rattle.grammar.specs.MirrorRows.{rows}
 use Rattle.grammar.specs.MirrorTable.{cell_at, belongs, serves, first, row_of, answer_at}
 use Rattle.sheet.specs.MirrorField.{field_at}
-use Rattle.sheet.specs.MirrorCheck.{kind_fault, length_fault, value_fault, depth_fault, or_next, field_fault, next_count, then_tally, count_up, stop_at, at_end, go_on, on_count, on_fault, on_header, step_at, and_then, after, walk, walk_at, no_counts, sheet_check}
-use Rattle.sheet.specs.declared.Checked.{Checked}
-use Rattle.sheet.specs.declared.Checked.TheVariants.{Accepted, Refused}
+use Rattle.sheet.specs.MirrorCheck.{kind_fault, length_fault, value_fault, depth_fault, or_next, field_fault, next_count, then_count, count_up, at_end, go_on, on_count, on_fault, on_field, step_at, after, walk, walk_at, no_counts, sheet_check}
+use Rattle.sheet.specs.declared.Counts.{Counts}
 use Rattle.grammar.proofs.Choosing.{clash}
 use Rattle.grammar.proofs.Sequences.{lacks, fill_end}
 use Rattle.sheet.proofs.FirstFault.{check_accepts, check_refuses}
 
-abbrev answer_of : Checked → Answer (Unit {0})
-answer_of (Accepted c) = done tt
-answer_of (Refused r) = refused r.number r.place
-
-kept : (s : List ℕ) → AllBytes s → Is rust s (answer_of (sheet_check rust s))
+kept : (s : List ℕ) → AllBytes s → Is rust s (mapped (λ c. tt {0}) (sheet_check rust s))
 kept s b = go (sheet_check rust s) refl
   where
-    go : (r : Checked) → sheet_check rust s ≡ r → Is rust s (answer_of r)
-    go (Accepted c) q = check_accepts rust s b c q
-    go (Refused r) q = check_refuses rust s b r q
+    go : (r : Answer Counts) → sheet_check rust s ≡ r → Is rust s (mapped (λ c. tt {0}) r)
+    go (done c) q = check_accepts rust s b c q
+    go (refused n p) q = check_refuses rust s b n p q
 
 -- bytes, by a test
 abbrev low : List ℕ → Bool
@@ -104,8 +99,8 @@ samples =
     ∷ sample (1 ∷ 0 ∷ 99 ∷ 16 ∷ 0 ∷ 3 ∷ 99 ∷ 97 ∷ 109 ∷ 48 ∷ 0 ∷ 8 ∷ 16 ∷ 0 ∷ 5 ∷ 102 ∷ 114 ∷ 97 ∷ 109 ∷ 101 ∷ 48 ∷ 0 ∷ 21 ∷ 16 ∷ 0 ∷ 7 ∷ 101 ∷ 120 ∷ 112 ∷ 111 ∷ 115 ∷ 101 ∷ 100 ∷ 52 ∷ 0 ∷ 8 ∷ 16 ∷ 0 ∷ 5 ∷ 102 ∷ 114 ∷ 97 ∷ 109 ∷ 101 ∷ 48 ∷ 0 ∷ 21 ∷ 16 ∷ 0 ∷ 7 ∷ 112 ∷ 108 ∷ 97 ∷ 110 ∷ 110 ∷ 101 ∷ 100 ∷ 52 ∷ 0 ∷ 8 ∷ 16 ∷ 0 ∷ 5 ∷ 102 ∷ 114 ∷ 97 ∷ 109 ∷ 101 ∷ 64 ∷ 0 ∷ 31 ∷ 16 ∷ 0 ∷ 5 ∷ 102 ∷ 114 ∷ 97 ∷ 109 ∷ 101 ∷ 83 ∷ 0 ∷ 20 ∷ 80 ∷ 0 ∷ 7 ∷ 101 ∷ 120 ∷ 112 ∷ 111 ∷ 115 ∷ 101 ∷ 100 ∷ 80 ∷ 0 ∷ 7 ∷ 112 ∷ 108 ∷ 97 ∷ 110 ∷ 110 ∷ 101 ∷ 100 ∷ []) (done tt)
     ∷ []
 
-computed : map (λ (x : Sample). answer_of (sheet_check rust x.bytes)) samples ≡ map (λ (x : Sample). x.say) samples
-unfolding rows cell_at belongs serves first row_of answer_at is_letter is_name_byte all_name_bytes starts_with_letter is_name field_at kind_fault length_fault value_fault depth_fault or_next field_fault next_count then_tally count_up stop_at at_end go_on on_count on_fault on_header step_at and_then after walk walk_at no_counts sheet_check
+computed : map (λ (x : Sample). mapped (λ c. tt {0}) (sheet_check rust x.bytes)) samples ≡ map (λ (x : Sample). x.say) samples
+unfolding rows cell_at belongs serves first row_of answer_at is_letter is_name_byte all_name_bytes starts_with_letter is_name field_at kind_fault length_fault value_fault depth_fault or_next field_fault next_count then_count count_up at_end go_on on_count on_fault on_field step_at after walk walk_at no_counts sheet_check
 computed = refl
 
 abbrev pub All : List Sample → Type 0
@@ -116,13 +111,13 @@ all_low : List Sample → Bool
 all_low [] = true
 all_low (x ∷ xs) = cond (low x.bytes) (all_low xs) false
 
-each : (xs : List Sample) → all_low xs ≡ true → map (λ (x : Sample). answer_of (sheet_check rust x.bytes)) xs ≡ map (λ (x : Sample). x.say) xs → All xs
+each : (xs : List Sample) → all_low xs ≡ true → map (λ (x : Sample). mapped (λ c. tt {0}) (sheet_check rust x.bytes)) xs ≡ map (λ (x : Sample). x.say) xs → All xs
 unfolding all_low
 each [] l q = tt
 each (x ∷ xs) l q = go (low x.bytes) refl l (λ k. each xs k (cc))
   where
     go : (b : Bool) → low x.bytes ≡ b → cond b (all_low xs) false ≡ true → (all_low xs ≡ true → All xs) → Is rust x.bytes x.say × All xs
-    go true e k next = (let z : answer_of (sheet_check rust x.bytes) ≡ x.say = cc in subst (Is rust x.bytes) z (kept x.bytes (low_bytes x.bytes e)), next k)
+    go true e k next = (let z : mapped (λ c. tt {0}) (sheet_check rust x.bytes) ≡ x.say = cc in subst (Is rust x.bytes) z (kept x.bytes (low_bytes x.bytes e)), next k)
     go false e k next = clash (cc)
 
 -- the verdict of each is the one that stands beside it

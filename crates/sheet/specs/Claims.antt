@@ -1,11 +1,11 @@
 -- What is proved of the verdict, to be read without the proofs: each claim is a type, and proofs/Proved.antt has a member of each.
-use Rattle.std.specs.Prelude.{ℕ, ◌<◌, ◌≡◌, ◌↔◌, List, get_or}
+use Rattle.std.specs.Prelude.{ℕ, ◌<◌, ◌≡◌, ◌↔◌, List, get_or, Result}
 use Rattle.refusal.specs.MeaningAnswer.{Answer, done, refused}
+use Rattle.refusal.specs.Told.{told}
+use Rattle.refusal.specs.declared.Refusal.{Refusal}
 use Rattle.grammar.specs.MeaningReading.{Reading}
 use Rattle.sheet.specs.MeaningSheet.{Fault, First, Is}
-use Rattle.sheet.specs.Told.{told}
 use Rattle.sheet.specs.Promises.{PromiseVerdict}
-use Rattle.sheet.specs.declared.Judgement.{Judgement}
 
 -- ---- by the meaning alone
 
@@ -24,16 +24,16 @@ SomeVerdict = (rd : Reading) (s : List ℕ) → AllBytes s → (v : Answer (Unit
 
 -- a refusal comes exactly when the table says, with the number and the place that it says
 abbrev pub RefusesExactly : Type 0
-RefusesExactly = (rd : Reading) (s : List ℕ) (r : Judgement) → PromiseVerdict rd s r → (n p : ℕ) → (told r ≡ refused n p) ↔ First rd s n p
+RefusesExactly = (rd : Reading) (s : List ℕ) (r : Result (Unit {0}) Refusal) → PromiseVerdict rd s r → (n p : ℕ) → (told r ≡ refused n p) ↔ First rd s n p
 
 -- a sheet is accepted exactly when it has no fault
 abbrev pub AcceptsExactly : Type 0
-AcceptsExactly = (rd : Reading) (s : List ℕ) (r : Judgement) → PromiseVerdict rd s r → (told r ≡ done tt) ↔ ((n p : ℕ) → Fault rd s n p → ⊥)
+AcceptsExactly = (rd : Reading) (s : List ℕ) (r : Result (Unit {0}) Refusal) → PromiseVerdict rd s r → (told r ≡ done tt) ↔ ((n p : ℕ) → Fault rd s n p → ⊥)
 
 -- different answers say different things
 abbrev pub ToldInjective : Type 0
-ToldInjective = (r r' : Judgement) → told r ≡ told r' → r ≡ r'
+ToldInjective = (r r' : Result (Unit {0}) Refusal) → told r ≡ told r' → r ≡ r'
 
 -- one sheet allows one outcome
 abbrev pub VerdictOnce : Type 0
-VerdictOnce = (rd : Reading) (s : List ℕ) (r r' : Judgement) → PromiseVerdict rd s r → PromiseVerdict rd s r' → r ≡ r'
+VerdictOnce = (rd : Reading) (s : List ℕ) (r r' : Result (Unit {0}) Refusal) → PromiseVerdict rd s r → PromiseVerdict rd s r' → r ≡ r'

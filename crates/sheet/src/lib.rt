@@ -1,21 +1,22 @@
 // The verdict on a sheet: accepted, or refused with document 01's number and place.
 #![tactic(auto)]
 
-ghost use Rattle.std.specs.Prelude.{◌≡◌, ◌<◌, ◌≤◌, length};
+ghost use Rattle.std.specs.Prelude.{◌≡◌, ℕ, ◌<◌, ◌≤◌, length};
+ghost use Rattle.refusal.specs.Told.{number_of, told};
 ghost use Rattle.grammar.specs.MeaningReading.Reading.{rust};
 ghost use Rattle.grammar.specs.MirrorRows.{rows};
 ghost use Rattle.grammar.specs.MirrorTable.{row_count, cell_at, first_row, answer_at};
-ghost use Rattle.sheet.specs.MeaningName.{is_letter, is_name_byte, is_name};
-ghost use Rattle.sheet.specs.Told.{told_reading};
+ghost use Rattle.sheet.specs.MeaningName.{is_letter, is_name_byte, starts_with_letter, is_name};
+ghost use Rattle.sheet.specs.Told.{told_reading, told_fault, told_at};
 ghost use Rattle.sheet.specs.Promises.{PromiseVerdict};
 ghost use Rattle.sheet.specs.MirrorField.{field_at};
 ghost use Rattle.sheet.specs.MirrorCheck.{kind_fault, length_fault, value_fault, field_fault, next_count, count_up, at_end, go_on, step_at, walk_at, sheet_check};
 
 use grammar::{
-    ANSWER, CLASS, COLUMNS, END, FIELDS, KIND, LEVELS, LONGEST, MOST_BYTES, NAME, NAME_BYTES, NEXT,
-    ROW_COUNT, SHORTEST, SIMPLE, cell, first_row, row_of, rows,
+    ANSWER, CLASS, END, FIELDS, KIND, LEVELS, LONGEST, MOST_BYTES, NAME, NAME_BYTES, NEXT, Parent,
+    SHORTEST, SIMPLE, Table,
 };
-use refusal::Refusal;
+use refusal::{Reason, Refusal};
 
 // Under which reading a sheet is judged: what a row of the table answers depends on it.
 #[derive(Clone, Copy)]
@@ -23,22 +24,16 @@ pub enum Reading {
     Rust,
 }
 
-// The verdict.
+// A field: its tag, and where its value starts and stops.
 #[derive(Clone, Copy)]
-pub enum Judgement {
-    Accepted,
-    Refused(Refusal),
-}
-
-// What stands at a place: a field, or a header or value that passes its parent's end.
-#[derive(Clone, Copy)]
-pub enum Header {
-    Field { tag: u8, start: usize, stop: usize },
-    Passes,
+pub struct Field {
+    pub tag: u8,
+    pub start: usize,
+    pub stop: usize,
 }
 
 // How many fields have stood that count for a limit.
-#[derive(Clone, Copy)]
+#[derive(Clone, Copy, Default)]
 pub struct Counts {
     pub schemas: u16,
     pub declarations: u16,
@@ -56,20 +51,6 @@ impl Counts {
     pub const TERMS: u16 = 512;
 }
 
-// One count with the next field.
-#[derive(Clone, Copy)]
-pub enum Tally {
-    Upto(u16),
-    Beyond,
-}
-
-// All counts with the next field.
-#[derive(Clone, Copy)]
-pub enum Counted {
-    Within(Counts),
-    Over,
-}
-
 // One step in a value. `next` is the value's state after a field. Small parts come first, so that all cases lie alike and a step stays in registers.
 #[derive(Clone, Copy)]
 pub enum Step {
@@ -81,359 +62,335 @@ pub enum Step {
         next: u16,
         stop: usize,
     },
-    // A field that holds fields is entered: the counts, `next`, its tag, the depth left inside it, where its value starts and stops.
-    Into(Counts, u16, u16, u16, usize, usize),
-    Stop(Refusal),
+    // A field that holds fields is entered: `depth` is left inside it.
+    Into {
+        counts: Counts,
+        next: u16,
+        tag: u16,
+        depth: u16,
+        start: usize,
+        stop: usize,
+    },
 }
 
-// What the check of a value answers: the counts after it.
+// What a sheet is judged by, and its bytes.
 #[derive(Clone, Copy)]
-pub enum Checked {
-    Accepted(Counts),
-    Refused(Refusal),
+struct Judge<'a> {
+    reading: Reading,
+    table: &'a Table,
+    bytes: &'a [u8],
 }
 
-type Table = [[u16; COLUMNS]; ROW_COUNT];
+// A value that is being read: what holds it, where it ends, and the depth that is left in it.
+#[derive(Clone, Copy)]
+struct Value {
+    parent: Parent,
+    end: usize,
+    depth: u16,
+}
 
 // Levels of expressions, a lone reference being 1.
 const MOST_DEPTH: u16 = 5;
 
 // Refuses with the first fault of the sheet, or accepts it if it has none.
-pub fn verdict(sheet: &[u8]) -> Judgement
+pub fn verdict(sheet: &[u8]) -> Result<(), Refusal>
     ensures { PromiseVerdict rust sheet.now result }
 {
     verdict_in(Reading::Rust, sheet)
 }
 
 // The same in a reading that the caller chooses.
-pub fn verdict_in(reading: Reading, sheet: &[u8]) -> Judgement
+pub fn verdict_in(reading: Reading, sheet: &[u8]) -> Result<(), Refusal>
     ensures { PromiseVerdict (told_reading reading) sheet.now result }
 {
-    match check_sheet(reading, sheet) {
-        Checked::Accepted(_) => Judgement::Accepted,
-        Checked::Refused(refusal) => Judgement::Refused(refusal),
-    }
+    check_sheet(reading, sheet)?;
+    Ok(())
 }
 
-fn check_sheet(reading: Reading, sheet: &[u8]) -> Checked
-    ensures { result ≡ sheet_check (told_reading reading) sheet.now }
+#[tactic(auto, unfolding(crate::specs::MirrorCheck::sheet_check, crate::specs::MirrorCheck::no_counts))]
+fn check_sheet(reading: Reading, sheet: &[u8]) -> Result<Counts, Refusal>
+    ensures { told result ≡ sheet_check (told_reading reading) sheet.now }
 {
-    if sheet.len() <= MOST_BYTES as usize {
-        let none = Counts {
-            schemas: 0,
-            declarations: 0,
-            constraints: 0,
-            terms: 0,
-        };
-        let table = rows();
-        return check_fields(reading, &table, sheet, 0, 0, sheet.len(), MOST_DEPTH, none);
+    if usize::from(MOST_BYTES) < sheet.len() {
+        return Err(Reason::SheetTooLong.into());
     }
-    Checked::Refused(Refusal::of(1))
+    let table = Table::new();
+    let judge = Judge {
+        reading,
+        table: &table,
+        bytes: sheet,
+    };
+    let whole = Value {
+        parent: table.parent(0),
+        end: sheet.len(),
+        depth: MOST_DEPTH,
+    };
+    judge.check_fields(whole, 0, Counts::default())
 }
 
-// The fields of one value, each with what stands inside it.
-fn check_fields(
-    reading: Reading,
-    table: &Table,
-    s: &[u8],
-    parent: u16,
-    at: usize,
-    end: usize,
-    depth: u16,
-    counts: Counts,
-) -> Checked
-    requires { (table.now ≡ rows) × (at ≤ end) × (end ≤ length s.now) }
-    ensures { result ≡ walk_at (told_reading reading) s.now parent 0 at end depth counts }
-{
-    let first = first_row(table, parent);
-    let mut state: u16 = 0;
-    let mut from = at;
-    let mut c = counts;
-    loop {
-        match step_at(reading, table, s, parent, first, state, from, end, depth, c) {
-            Step::Done(counts) => return Checked::Accepted(counts),
-            Step::Past { counts, next, stop } => {
-                from = stop;
-                state = next;
-                c = counts;
+impl Judge<'_> {
+    // The fields of a value from a place on, each with what stands inside it: the counts after them.
+    fn check_fields(&self, value: Value, at: usize, counts: Counts) -> Result<Counts, Refusal>
+        requires { (at ≤ value.end) × (value.end ≤ length self.now.bytes.now) }
+        ensures { told result ≡ walk_at (told_reading self.now.reading) self.now.bytes.now value.parent.tag 0 at value.end value.depth counts }
+    {
+        let mut state: u16 = 0;
+        let mut from = at;
+        let mut c = counts;
+        loop {
+            match self.step_at(value, state, from, c) {
+                Err(reason) => return Err(Refusal::at(reason, from)),
+                Ok(Step::Done(counts)) => return Ok(counts),
+                Ok(Step::Past { counts, next, stop }) => {
+                    from = stop;
+                    state = next;
+                    c = counts;
+                }
+                Ok(
+                    Step::Into {
+                        counts,
+                        next,
+                        tag,
+                        depth,
+                        start,
+                        stop,
+                    },
+                ) => {
+                    let inside = Value {
+                        parent: self.table.parent(tag),
+                        end: stop,
+                        depth,
+                    };
+                    c = self.check_fields(inside, start, counts)?;
+                    from = stop;
+                    state = next;
+                }
             }
-            Step::Into(counts, next, tag, inner, start, stop) => {
-                let r = check_fields(reading, table, s, tag, start, stop, inner, counts);
-                let Checked::Accepted(after) = r else {
-                    return r;
-                };
-                from = stop;
-                state = next;
-                c = after;
-            }
-            Step::Stop(refusal) => return Checked::Refused(refusal),
+        }
+    }
+
+    // All that is checked at one place, in the order 3, 4, 5.
+    #[tactic(auto, using(crate::proofs::Deciding::stepping), unfolding(crate::specs::MirrorCheck::step_at, crate::specs::MirrorCheck::on_field, crate::specs::MirrorCheck::on_fault, crate::specs::MirrorCheck::on_count))]
+    fn step_at(&self, value: Value, state: u16, at: usize, counts: Counts) -> Result<Step, Reason>
+        requires { (at ≤ value.end) × (value.end ≤ length self.now.bytes.now) }
+        ensures { told_at at result ≡ step_at (told_reading self.now.reading) self.now.bytes.now value.parent.tag state at value.end value.depth counts }
+    {
+        if at == value.end {
+            return end_step(self.table, value.parent, state, counts);
+        }
+        let field = field_at(self.bytes, at, value.end).ok_or(Reason::Misfit)?;
+        let tag = u16::from(field.tag);
+        let row = self
+            .table
+            .row_of(value.parent, state, tag)
+            .ok_or(Reason::Misfit)?;
+        self.field_fault(&self.bytes[field.start..field.stop], row, value.depth)?;
+        let counts = count_up(self.table.cell(row, CLASS), counts).ok_or(Reason::TooMuch)?;
+        Ok(go_on(self.table, row, field, value.depth, counts))
+    }
+
+    // The fault of a field by itself, whatever has stood before it.
+    #[tactic(auto, unfolding(crate::specs::MirrorCheck::field_fault, crate::specs::MirrorCheck::or_next, crate::specs::MirrorCheck::depth_fault))]
+    fn field_fault(&self, v: &[u8], row: usize, depth: u16) -> Result<(), Reason>
+        requires { row < row_count }
+        ensures { told_fault result ≡ field_fault (told_reading self.now.reading) v.now row depth }
+    {
+        self.row_answer(row)?;
+        value_fault(self.table, v, row)?;
+        if depth < self.table.cell(row, LEVELS) {
+            return Err(Reason::TooMuch);
+        }
+        Ok(())
+    }
+
+    // What a row answers: the tag may stand, or why it is refused.
+    #[tactic(auto, using(grammar::proofs::Serving::answer_small), unfolding(grammar::specs::MirrorTable::answer_at, crate::specs::Told::told_reading))]
+    fn row_answer(&self, row: usize) -> Result<(), Reason>
+        requires { row < row_count }
+        ensures { told_fault result ≡ answer_at (told_reading self.now.reading) row }
+    {
+        match self.reading {
+            Reading::Rust => answer_of(self.table.cell(row, ANSWER)),
         }
     }
 }
 
-// All that is checked at one place, in the order 3, 4, 5. `first` is the parent's first row, `depth` the depth that is left.
-fn step_at(
-    reading: Reading,
-    table: &Table,
-    s: &[u8],
-    parent: u16,
-    first: usize,
-    state: u16,
-    at: usize,
-    end: usize,
-    depth: u16,
-    counts: Counts,
-) -> Step
-    requires { (table.now ≡ rows) × (first ≡ first_row parent) × (at ≤ end) × (end ≤ length s.now) }
-    ensures { result ≡ step_at (told_reading reading) s.now parent state at end depth counts }
-{
-    if at == end {
-        return end_step(table, parent, first, state, end, counts);
-    }
-    let Header::Field { tag, start, stop } = field_at(s, at, end) else {
-        return Step::Stop(Refusal::at(3, at));
-    };
-    let t = tag as u16;
-    let row = row_of(table, parent, first, state, t);
-    let fault = field_fault(reading, table, &s[start..stop], row, depth);
-    if fault != 0 {
-        return Step::Stop(Refusal::at(fault, at));
-    }
-    let Counted::Within(c) = count_up(cell(table, row, CLASS), counts) else {
-        return Step::Stop(Refusal::at(5, at));
-    };
-    go_on(table, row, t, start, stop, depth, c)
-}
-
 // The end of a value: no needed field may be missing.
-fn end_step(
-    table: &Table,
-    parent: u16,
-    first: usize,
-    state: u16,
-    end: usize,
-    counts: Counts,
-) -> Step
-    requires { (table.now ≡ rows) × (first ≡ first_row parent) }
-    ensures { result ≡ at_end parent state end counts }
+#[tactic(auto, unfolding(crate::specs::MirrorCheck::at_end, grammar::specs::MirrorTable::in_table))]
+fn end_step(table: &Table, parent: Parent, state: u16, counts: Counts) -> Result<Step, Reason>
+    ensures { (at : ℕ) → told_at at result ≡ at_end parent.tag state at counts }
 {
-    if row_of(table, parent, first, state, END) < ROW_COUNT {
-        return Step::Done(counts);
-    }
-    Step::Stop(Refusal::at(3, end))
+    table.row_of(parent, state, END).ok_or(Reason::Misfit)?;
+    Ok(Step::Done(counts))
 }
 
 // After a field without a fault: into its value if it holds fields, otherwise past it.
-fn go_on(
-    table: &Table,
-    row: usize,
-    tag: u16,
-    start: usize,
-    stop: usize,
-    depth: u16,
-    counts: Counts,
-) -> Step
-    requires { (table.now ≡ rows) × (row < row_count) × (cell_at row 9 ≤ depth) }
-    ensures { result ≡ go_on tag start stop row depth counts }
+#[tactic(auto, unfolding(crate::specs::MirrorCheck::go_on))]
+fn go_on(table: &Table, row: usize, field: Field, depth: u16, counts: Counts) -> Step
+    requires { (row < row_count) × (cell_at row 9 ≤ depth) }
+    ensures { result ≡ go_on field.tag field.start field.stop row depth counts }
 {
-    let next = cell(table, row, NEXT);
-    if cell(table, row, KIND) != FIELDS {
-        return Step::Past { counts, next, stop };
+    let next = table.cell(row, NEXT);
+    if table.cell(row, KIND) != FIELDS {
+        return Step::Past {
+            counts,
+            next,
+            stop: field.stop,
+        };
     }
-    let inner = depth - cell(table, row, LEVELS);
-    Step::Into(counts, next, tag, inner, start, stop)
+    Step::Into {
+        counts,
+        next,
+        tag: u16::from(field.tag),
+        depth: depth - table.cell(row, LEVELS),
+        start: field.start,
+        stop: field.stop,
+    }
 }
 
-// The fault of a field by itself, whatever has stood before it: 0, or the refusal's number. Where no row serves, the tag is not allowed.
-fn field_fault(reading: Reading, table: &Table, v: &[u8], row: usize, depth: u16) -> u8
-    requires { table.now ≡ rows }
-    ensures { result ≡ field_fault (told_reading reading) v.now row depth }
+// The fault of a value.
+#[tactic(auto, unfolding(crate::specs::MirrorCheck::value_fault))]
+fn value_fault(table: &Table, v: &[u8], row: usize) -> Result<(), Reason>
+    requires { row < row_count }
+    ensures { told_fault result ≡ value_fault v.now row }
 {
-    if ROW_COUNT <= row {
-        return 3;
+    let kind = table.cell(row, KIND);
+    if v.len() < usize::from(table.cell(row, SHORTEST)) {
+        return Err(length_fault(kind));
     }
-    let answer = row_answer(reading, table, row);
-    if answer != 0 {
-        return answer;
-    }
-    let fault = value_fault(table, v, row);
-    if fault != 0 {
-        return fault;
-    }
-    if depth < cell(table, row, LEVELS) {
-        return 5;
-    }
-    0
-}
-
-// The fault of a value: 0, or the refusal's number.
-fn value_fault(table: &Table, v: &[u8], row: usize) -> u8
-    requires { (table.now ≡ rows) × (row < row_count) }
-    ensures { result ≡ value_fault v.now row }
-{
-    let kind = cell(table, row, KIND);
-    if v.len() < cell(table, row, SHORTEST) as usize {
-        return length_fault(kind);
-    }
-    if (cell(table, row, LONGEST) as usize) < v.len() {
-        return length_fault(kind);
+    if usize::from(table.cell(row, LONGEST)) < v.len() {
+        return Err(length_fault(kind));
     }
     kind_fault(v, kind)
 }
 
 // A wrong length is a fault of a name, or of any other value.
-fn length_fault(kind: u16) -> u8
-    ensures { result ≡ length_fault kind }
+#[tactic(auto, unfolding(crate::specs::MirrorCheck::length_fault))]
+fn length_fault(kind: u16) -> Reason
+    ensures { number_of result ≡ length_fault kind }
 {
-    if kind == NAME { 4 } else { 3 }
+    if kind == NAME {
+        Reason::BadName
+    } else {
+        Reason::Misfit
+    }
 }
 
 // A value that has a length of its kind.
-fn kind_fault(v: &[u8], kind: u16) -> u8
-    ensures { result ≡ kind_fault v.now kind }
+#[tactic(auto, unfolding(crate::specs::MirrorCheck::kind_fault))]
+fn kind_fault(v: &[u8], kind: u16) -> Result<(), Reason>
+    ensures { told_fault result ≡ kind_fault v.now kind }
 {
-    if kind == NAME {
-        if is_name(v) {
-            return 0;
-        }
-        return 4;
+    match kind {
+        NAME if !is_name(v) => Err(Reason::BadName),
+        SIMPLE if v.first().is_some_and(|b| 6 < *b) => Err(Reason::Misfit),
+        _ => Ok(()),
     }
-    if kind == SIMPLE {
-        if 0 < v.len() {
-            if v[0] <= 6 {
-                return 0;
-            }
-            return 3;
-        }
-    }
-    0
 }
 
-// All counts after a field of this class.
-fn count_up(class: u16, c: Counts) -> Counted
+// All counts after a field of this class, if none passes its most.
+#[tactic(auto, unfolding(crate::specs::MirrorCheck::count_up, crate::specs::MirrorCheck::then_count))]
+fn count_up(class: u16, c: Counts) -> Option<Counts>
     ensures { result ≡ count_up class c }
 {
-    let Tally::Upto(schemas) = next_count(class, 1, c.schemas, Counts::SCHEMAS) else {
-        return Counted::Over;
-    };
-    let Tally::Upto(declarations) = next_count(class, 2, c.declarations, Counts::DECLARATIONS)
-    else {
-        return Counted::Over;
-    };
-    let Tally::Upto(constraints) = next_count(class, 3, c.constraints, Counts::CONSTRAINTS) else {
-        return Counted::Over;
-    };
-    let Tally::Upto(terms) = next_count(class, 4, c.terms, Counts::TERMS) else {
-        return Counted::Over;
-    };
-    Counted::Within(Counts {
-        schemas,
-        declarations,
-        constraints,
-        terms,
+    Some(Counts {
+        schemas: next_count(class, 1, c.schemas, Counts::SCHEMAS)?,
+        declarations: next_count(class, 2, c.declarations, Counts::DECLARATIONS)?,
+        constraints: next_count(class, 3, c.constraints, Counts::CONSTRAINTS)?,
+        terms: next_count(class, 4, c.terms, Counts::TERMS)?,
     })
 }
 
 // One count after a field of this class: one more, if the class is the count's own.
-fn next_count(class: u16, own: u16, count: u16, most: u16) -> Tally
+#[tactic(auto, unfolding(crate::specs::MirrorCheck::next_count))]
+fn next_count(class: u16, own: u16, count: u16, most: u16) -> Option<u16>
     ensures { result ≡ next_count class own count most }
 {
     if class != own {
-        return Tally::Upto(count);
+        return Some(count);
     }
     if count < most {
-        return Tally::Upto(count + 1);
+        return Some(count + 1);
     }
-    Tally::Beyond
+    None
 }
 
-// The header at a place of a value that ends at `end`.
-pub fn field_at(s: &[u8], at: usize, end: usize) -> Header
+// The field at a place of a value that ends at `end`, if its header and its value end by there too.
+#[tactic(auto, unfolding(crate::specs::MirrorField::field_at))]
+pub fn field_at(s: &[u8], at: usize, end: usize) -> Option<Field>
     requires { (at ≤ end) × (end ≤ length s.now) }
     ensures { result ≡ field_at s.now at end }
 {
     if end - at < 3 {
-        return Header::Passes;
+        return None;
     }
-    let n = wide(s[at + 1]) * 256 + wide(s[at + 2]);
+    // `u16::from_be_bytes` was tried: with it a verdict takes a third longer.
+    let n = usize::from(s[at + 1]) * 256 + usize::from(s[at + 2]);
     let start = at + 3;
     if end - start < n {
-        return Header::Passes;
+        return None;
     }
-    Header::Field {
+    Some(Field {
         tag: s[at],
         start,
         stop: start + n,
-    }
-}
-
-// A byte as a part of a length.
-fn wide(byte: u8) -> usize
-    ensures { (result ≡ byte) × (result < 256) }
-{
-    byte as usize
+    })
 }
 
 // 1 to 32 bytes, a letter, then letters, digits or underscores.
+#[tactic(auto, unfolding(crate::specs::MeaningName::is_name))]
 pub fn is_name(v: &[u8]) -> bool
     ensures { result ≡ is_name v.now }
 {
-    if (NAME_BYTES as usize) < v.len() {
-        return false;
-    }
-    if v.len() == 0 {
-        return false;
-    }
-    if !is_letter(v[0]) {
-        return false;
-    }
-    let mut i: usize = 0;
-    while i < v.len() {
-        if !is_name_byte(v[i]) {
-            return false;
-        }
-        i += 1;
-    }
-    true
+    v.len() <= usize::from(NAME_BYTES)
+        && starts_with_letter(v)
+        && v.iter().all(|b| is_name_byte(*b))
 }
 
-// Small letters and underscores first: they are most of a name's bytes.
+#[tactic(auto, unfolding(crate::specs::MeaningName::starts_with_letter))]
+fn starts_with_letter(v: &[u8]) -> bool
+    ensures { result ≡ starts_with_letter v.now }
+{
+    v.first().is_some_and(|b| is_letter(*b))
+}
+
+#[tactic(auto, unfolding(crate::specs::MeaningName::is_name_byte, crate::specs::MeaningName::is_letter))]
 fn is_name_byte(b: u8) -> bool
     ensures { result ≡ is_name_byte b }
 {
-    if b'a' <= b {
-        return b <= b'z';
-    }
-    if b == b'_' {
-        return true;
-    }
-    if b'A' <= b {
-        return b <= b'Z';
-    }
-    if b'0' <= b {
-        return b <= b'9';
-    }
-    false
+    b.is_ascii_alphanumeric() || b == b'_'
 }
 
+#[tactic(auto, unfolding(crate::specs::MeaningName::is_letter))]
 fn is_letter(b: u8) -> bool
     ensures { result ≡ is_letter b }
 {
-    if b'a' <= b {
-        return b <= b'z';
-    }
-    if b'A' <= b {
-        return b <= b'Z';
-    }
-    false
+    b.is_ascii_alphabetic()
 }
 
-// What a row answers: 0, or the number that the tag is refused with.
-fn row_answer(reading: Reading, table: &Table, row: usize) -> u8
-    requires { (table.now ≡ rows) × (row < row_count) }
-    ensures { result ≡ answer_at (told_reading reading) row }
+// An answer by its number: 0, or a reason's.
+fn answer_of(number: u16) -> Result<(), Reason>
+    requires { number < 18 }
+    ensures { told_fault result ≡ number }
 {
-    match reading {
-        Reading::Rust => cell(table, row, ANSWER) as u8,
-    }
+    Err(match number {
+        0 => return Ok(()),
+        1 => Reason::SheetTooLong,
+        2 => Reason::WorkspaceTooShort,
+        3 => Reason::Misfit,
+        4 => Reason::BadName,
+        5 => Reason::TooMuch,
+        6 => Reason::Undeclared,
+        7 => Reason::NoDeclaration,
+        8 => Reason::SecondRule,
+        9 => Reason::TooFewTerms,
+        10 => Reason::TooManyFactors,
+        11 => Reason::TooManySets,
+        12 => Reason::BufferTooShort,
+        13 => Reason::NamedThroughItself,
+        14 => Reason::NoType,
+        15 => Reason::Malformed,
+        16 => Reason::NoSupertype,
+        _ => Reason::NoNumber,
+    })
 }

@@ -1,12 +1,11 @@
 -- Where the declaration with a number stands.
-use Rattle.std.specs.Prelude.{ℕ, ◌+◌, ◌≤◌, ◌≡◌, List, cond, length, eqb}
+use Rattle.std.specs.Prelude.{ℕ, ◌+◌, ◌≤◌, ◌≡◌, List, Result, Ok, Err, cond, length, eqb}
 use Rattle.std.proofs.Math.Option.{none, some}
 use Rattle.std.proofs.Math.ListN.{get_elem?}
 use Rattle.schemas.specs.MeaningTree.{Tree, tree_at}
 use Rattle.schemas.specs.MeaningSchemas.{type_of, entity_of, schema_of}
 use Rattle.declarations.specs.MeaningNamespace.{Named, a_type, an_entity, path_in, Declaration, declared_by, numbered}
 use Rattle.standing.specs.declared.Declared.{Declared}
-use Rattle.standing.specs.declared.Declared.TheVariants.{At, Past}
 
 -- what a field with the tag declares, 20 or 30, at this place and with these fields
 unfoldable pub named_at : ℕ → ℕ → Tree → Named
@@ -32,10 +31,10 @@ pub record Stands (s : List ℕ) (ds : List Declaration) (i x y t a b : ℕ) : T
   pub inside : b ≤ length s
 
 -- or there are fewer declarations, by so many
-abbrev pub StandsAt : List ℕ → List Declaration → ℕ → Declared → Type 0
-StandsAt s ds i (At x y t a b) = Stands s ds i x y t a b
-StandsAt s ds i (Past m) = (get_elem? ds i ≡ none) × (i ≡ length ds + m)
+abbrev pub StandsAt : List ℕ → List Declaration → ℕ → Result Declared ℕ → Type 0
+StandsAt s ds i (Ok d) = Stands s ds i d.schema.start d.schema.stop d.tag d.item.start d.item.stop
+StandsAt s ds i (Err m) = (get_elem? ds i ≡ none) × (i ≡ length ds + m)
 
 -- the same among the declarations of one schema, whatever its place and its first number
-abbrev pub InFields : List ℕ → (at end i : ℕ) → Declared → Type 0
+abbrev pub InFields : List ℕ → (at end i : ℕ) → Result Declared ℕ → Type 0
 InFields s at e i r = (p n : ℕ) → StandsAt s (numbered (schema_of p (tree_at s at e)) n (declared_by (schema_of p (tree_at s at e)))) i r

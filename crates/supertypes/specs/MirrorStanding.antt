@@ -1,17 +1,17 @@
 -- What stands in the lent workspace: the records of gathering in front, a list in rows behind them.
-use Rattle.std.specs.Prelude.{◌≡◌, List, [], ◌++◌, map, Bool, false, ℕ, ◌+◌, ◌-◌, ◌≤◌, eqb, length, take, drop}
+use Rattle.std.specs.Prelude.{◌≡◌, List, [], ◌++◌, map, Bool, false, ℕ, ◌+◌, ◌-◌, ◌≤◌, eqb, length, take, drop, Result, Ok, IfOk}
 use Rattle.std.proofs.Math.Option.{Option, none, some}
 use Rattle.std.proofs.Math.ListN.{get_elem?}
 use Rattle.refusal.specs.MeaningAnswer.{Answer, done, refused, mapped, ◌>>=◌}
-use Rattle.refusal.specs.Told.{told_refusal}
+use Rattle.refusal.specs.Told.{told_by}
+use Rattle.refusal.specs.declared.Refusal.{Refusal}
 use Rattle.grammar.specs.MeaningReading.{Reading}
 use Rattle.complex_entity.specs.MeaningParts.{Part}
 use Rattle.rows.specs.MirrorRows.{parts_at, Stands}
 use Rattle.expression.specs.MeaningExpression.{eval}
 use Rattle.expression.specs.MeaningNumbers.{or17}
 use Rattle.expression.specs.MirrorNodes.{height}
-use Rattle.expression.specs.declared.Valued.{Valued}
-use Rattle.expression.specs.declared.Valued.TheVariants.{Is, Refused}
+use Rattle.instantiables.specs.declared.Instantiables.{Instantiables}
 use Rattle.declarations.specs.MeaningNamespace.{schemas_in, Declaration, answered}
 use Rattle.namespace.specs.MeaningOrder.{Answers}
 use Rattle.merging.specs.MeaningMerging.{Combined, Pair, find}
@@ -20,9 +20,6 @@ use Rattle.merging.specs.MeaningRenaming.{Each}
 use Rattle.merging.specs.MeaningFirsts.{firsts}
 use Rattle.merging.specs.MirrorStream.{stream_of, paired, pairs_of, is_found}
 use Rattle.gathering.specs.MirrorGathering.{streams}
-use Rattle.gathering.specs.MirrorWalk.{told_gathered}
-use Rattle.gathering.specs.declared.Gathered.{Gathered}
-use Rattle.gathering.specs.declared.Gathered.TheVariants.{Done}
 use Rattle.gathering.specs.declared.Streams.{Streams}
 use Rattle.supertypes.specs.MeaningWorkspace.{enough, left}
 
@@ -46,11 +43,11 @@ pub record Stood (x : Streams) (w : List ℕ) : Type 0 where
   pub stands : Standing both x w
 
 -- what was asked in order and gathered then; the workspace is left as it was where it must be
-pub record Gathers (rd : Reading) (s work : List ℕ) (asked : Answer (Unit {0})) (r : Gathered) (work' : List ℕ) : Type 0 where
-  pub both : Answer Both
-  pub is : Answers rd s (enough work) asked (λ u. streams rd (schemas_in s)) both
-  pub says : told_gathered r ≡ mapped (λ b. (length (stream_of b.0), length (stream_of b.0) + length (pairs_of b.1))) both
-  pub stands : (x : Streams) → r ≡ Done x → (b : Both) × (both ≡ done b) × Standing b x work' × (length s ≤ 65535)
+pub record Gathers {T : Type 0} (rd : Reading) (s work : List ℕ) (asked : Answer T) (r : Result (T × Streams) Refusal) (work' : List ℕ) : Type 0 where
+  pub both : Answer (T × Both)
+  pub is : Answers rd s (enough work) asked (λ t. mapped (λ b. (t, b)) (streams rd (schemas_in s))) both
+  pub says : told_by {B = T × ℕ × ℕ} (λ (z : T × Streams). (z.0, z.1.rules, z.1.used)) r ≡ mapped {B = T × ℕ × ℕ} (λ (z : T × Both). (z.0, length (stream_of z.1.0), length (stream_of z.1.0) + length (pairs_of z.1.1))) both
+  pub stands : (z : T × Streams) → r ≡ Ok z → (b : Both) × (both ≡ done (z.0, b)) × Standing b z.1 work' × (length s ≤ 65535)
   pub kept : left s work' ≡ left s work
 
 -- ---- what a declaration's number is found to be
@@ -74,15 +71,13 @@ owner_in k b = or17 (get_elem? (firsts eqb [] (map (λ (c : Combined ℕ). c.own
 
 -- ---- a list, in rows behind the records
 
-unfoldable pub list_at : Valued → List ℕ → Answer (List Part)
-list_at (Is v) rows = done (parts_at v.count rows)
-list_at (Refused why) rows = told_refusal why
+abbrev pub list_at : Result Instantiables Refusal → List ℕ → Answer (List Part)
+list_at v rows = told_by (λ (l : Instantiables). parts_at l.count rows) v
 
-unfoldable pub StandsIf : Valued → List ℕ → Type 0
-StandsIf (Is v) rows = Stands rows v.count
-StandsIf (Refused why) rows = Unit {0}
+abbrev pub StandsIf : Result Instantiables Refusal → List ℕ → Type 0
+StandsIf v rows = IfOk v (λ (l : Instantiables). Stands rows l.count)
 
 -- the list stands there, or why there is none
-pub record ListedAs (o : Answer (List Part)) (v : Valued) (w : List ℕ) : Type 0 where
+pub record ListedAs (o : Answer (List Part)) (v : Result Instantiables Refusal) (w : List ℕ) : Type 0 where
   pub is : list_at v (drop 2048 w) ≡ o
   pub stands : StandsIf v (drop 2048 w)

@@ -20,7 +20,9 @@ use Rattle.complex_entity.proofs.Limits.{Narrow, Held, is_held, is_over, held_vi
 use Rattle.complex_entity.proofs.Choices.{grown_rising, andor_from_rising, andor_from_more, andor_steps}
 use Rattle.instantiables.specs.MirrorRows.{Sets}
 use Rattle.expression.specs.MeaningExpression.{Expr, reference, andor, «and», oneof, Terms, end, ◌then◌, eval, values}
-use Rattle.terms.specs.MirrorValues.{Kind, andors, ands, oneofs, at_node, taken_in, refusal_of, unless}
+use Rattle.expression.specs.declared.Kind.{Kind}
+use Rattle.expression.specs.declared.Kind.TheVariants.{Reference, Andor, And, Oneof}
+use Rattle.terms.specs.MirrorValues.{at_node, taken_in, refusal_of, unless}
 
 -- ---- the lists of n terms are taken in: those of the others follow
 unfoldable pub folded : Kind → ℕ → Answer (List Part) → List (List Part) → Answer (List Part)
@@ -75,7 +77,7 @@ held_refused M a b e = go (held_view M) e
     go (is_held h s) e = let z : ◌≡◌ {A = ℕ} 0 1 = cc in absurd (omega arith)
     go (is_over h) e = (cc, cc)
 
-oneof_way : Way oneofs 0 Fits (λ K Ls. held (add K (flatten Ls)))
+oneof_way : Way Oneof 0 Fits (λ K Ls. held (add K (flatten Ls)))
 unfolding taken_in flatten
 oneof_way =
     record {
@@ -84,7 +86,7 @@ oneof_way =
       over = λ n K L Ls h f a b e. let r = held_refused (add K L) a b e in (r.0, r.1, held_grows K L (flatten Ls) (rw (r.0, r.1) at e));
     }
 
-andor_way : Way andors 0 Fits (λ K Ls. held (andor_from K Ls))
+andor_way : Way Andor 0 Fits (λ K Ls. held (andor_from K Ls))
 unfolding taken_in andor_from
 andor_way =
     record {
@@ -96,12 +98,12 @@ andor_way =
     }
 
 -- from the second term on
-and_step : (n : ℕ) (K L : List Part) → 1 ≤ n → taken_in ands n K L ≡ held (bitand K L)
+and_step : (n : ℕ) (K L : List Part) → 1 ≤ n → taken_in And n K L ≡ held (bitand K L)
 unfolding taken_in
 and_step zero K L h = absurd (omega arith)
 and_step (suc n) K L h = refl
 
-and_way : Way ands 1 (λ K. Unit {0}) prefixes
+and_way : Way And 1 (λ K. Unit {0}) prefixes
 unfolding prefixes
 and_way =
     record {
@@ -116,24 +118,31 @@ and_way =
 empty_fits : Fits []
 empty_fits = record { rising = empty; held_is = held_done [] (omega arith) (λ q m. absurd (not_in_nil m)) }
 
+-- a reference has no terms; it would go as a ONEOF does
+folded_reference : (n : ℕ) (o : Answer (List Part)) (Ls : List (List Part)) → folded Reference n o Ls ≡ folded Oneof n o Ls
+unfolding folded taken_in refusal_of
+folded_reference n o [] = refl
+folded_reference n o (L ∷ Ls) = folded_reference (suc n) (o >>= λ K. held (add K L)) Ls
+
 pub folded_is : (kind : Kind) (Ls : List (List Part)) → folded kind 0 (done []) Ls ≡ at_node kind Ls
 unfolding folded at_node taken_in refusal_of andor_of and_of oneof_of
-folded_is andors [] = refl
-folded_is andors (L ∷ Ls) =
+folded_is Andor [] = refl
+folded_is Andor (L ∷ Ls) =
     let z : 0 + length (L ∷ Ls) ≡ suc (length Ls) = omega arith in
     folded_way andor_way 0 [] (L ∷ Ls) (omega arith) empty_fits
-    ∙ ap (λ (k : ℕ). unless (refusal_of andors k) (held (andor_from [] (L ∷ Ls)))) z
+    ∙ ap (λ (k : ℕ). unless (refusal_of Andor k) (held (andor_from [] (L ∷ Ls)))) z
     ∙ limited (held (andor_from [] (L ∷ Ls))) (leb (length (L ∷ Ls)) most_factors) ∙ rw (andor_steps (L ∷ Ls))
   where
     limited : (r : Answer (List Part)) (b : Bool) → unless (cond b none (some 10)) r ≡ or_else 10 b r
     limited r true = refl
     limited r false = refl
-folded_is ands [] = refl
-folded_is ands (L ∷ []) = refl
-folded_is ands (L ∷ K ∷ Ks) =
+folded_is And [] = refl
+folded_is And (L ∷ []) = refl
+folded_is And (L ∷ K ∷ Ks) =
     let z : 1 + length (K ∷ Ks) ≡ suc (suc (length Ks)) = omega arith in
-    folded_way and_way 1 L (K ∷ Ks) (omega arith) tt ∙ ap (λ (k : ℕ). unless (refusal_of ands k) (prefixes L (K ∷ Ks))) z
-folded_is oneofs Ls = folded_way oneof_way 0 [] Ls (omega arith) empty_fits
+    folded_way and_way 1 L (K ∷ Ks) (omega arith) tt ∙ ap (λ (k : ℕ). unless (refusal_of And k) (prefixes L (K ∷ Ks))) z
+folded_is Oneof Ls = folded_way oneof_way 0 [] Ls (omega arith) empty_fits
+folded_is Reference Ls = folded_reference 0 (done []) Ls ∙ folded_way oneof_way 0 [] Ls (omega arith) empty_fits
 
 -- ---- a list that is valued: sorted, of sets, within the limits
 pub record Good (L : List Part) : Type 0 where
@@ -180,10 +189,11 @@ append_sets K L S T q m = elim (∈_append_cases K L m) [ inl i ↦ S q i | inr 
 
 fine_taken : (kind : Kind) (n : ℕ) (K L : List Part) → Good K → Good L → Fine (taken_in kind n K L)
 unfolding taken_in grown
-fine_taken andors n K L g h = fine_held (grown K L) (grown_rising K L) (add_sets K (joins K L ++ L) g.sets (append_sets (joins K L) L (joins_sets K L) h.sets))
-fine_taken ands zero K L g h = h
-fine_taken ands (suc n) K L g h = fine_held (bitand K L) (tidy_rising part_order (joins K L)) (λ q m. joins_sets K L q (tidy_old part_order (joins K L) m))
-fine_taken oneofs n K L g h = fine_held (add K L) (add_rising K L) (add_sets K L g.sets h.sets)
+fine_taken Andor n K L g h = fine_held (grown K L) (grown_rising K L) (add_sets K (joins K L ++ L) g.sets (append_sets (joins K L) L (joins_sets K L) h.sets))
+fine_taken And zero K L g h = h
+fine_taken And (suc n) K L g h = fine_held (bitand K L) (tidy_rising part_order (joins K L)) (λ q m. joins_sets K L q (tidy_old part_order (joins K L) m))
+fine_taken Reference n K L g h = fine_held (add K L) (add_rising K L) (add_sets K L g.sets h.sets)
+fine_taken Oneof n K L g h = fine_held (add K L) (add_rising K L) (add_sets K L g.sets h.sets)
 
 pub fine_next : (kind : Kind) (n : ℕ) (o : Answer (List Part)) (L : List Part) → Fine o → Good L → Fine (o >>= λ K. taken_in kind n K L)
 fine_next kind n (done K) L f g = fine_taken kind n K L f g
@@ -224,9 +234,9 @@ mutual
 
   pub fine_eval : (e : Expr ℕ) → Fine (eval e)
   fine_eval (reference n) = good_single n
-  fine_eval (andor t) = fine_node andors (values t) (fine_values t)
-  fine_eval («and» t) = fine_node ands (values t) (fine_values t)
-  fine_eval (oneof t) = fine_node oneofs (values t) (fine_values t)
+  fine_eval (andor t) = fine_node Andor (values t) (fine_values t)
+  fine_eval («and» t) = fine_node And (values t) (fine_values t)
+  fine_eval (oneof t) = fine_node Oneof (values t) (fine_values t)
 
   fine_values : (t : Terms ℕ) → AllFine (values t)
   fine_values end = λ L m. absurd (not_in_nil m)

@@ -1,14 +1,16 @@
 -- A node's list as the code makes it: term by term, each term's list taken in by the node's kind.
-use Rattle.std.specs.Prelude.{◌≡◌, List, cond, ℕ, zero, suc, ◌*◌, length, take, eqb, leb}
+use Rattle.std.specs.Prelude.{◌≡◌, List, cond, ℕ, zero, suc, ◌*◌, length, take, leb, Result, Ok, Err}
 use Rattle.std.proofs.Math.Option.{Option, none, some}
 use Rattle.refusal.specs.MeaningAnswer.{Answer, done, refused, mapped, ◌>>=◌}
-use Rattle.refusal.specs.Told.{told_refusal}
 use Rattle.complex_entity.specs.MeaningParts.{Part}
 use Rattle.complex_entity.specs.MeaningLists.{add, bitand, held, most_factors, oneof_of, and_of, andor_of}
 use Rattle.complex_entity.specs.MirrorLists.{grown}
 use Rattle.complex_entity.specs.MeaningRows as rows
-use Rattle.instantiables.specs.declared.Listed.{Listed}
-use Rattle.instantiables.specs.declared.Listed.TheVariants.{Rows, Refused}
+use Rattle.refusal.specs.declared.Refusal.{Refusal}
+use Rattle.refusal.specs.Told.{told_by}
+use Rattle.instantiables.specs.declared.Instantiables.{Instantiables}
+use Rattle.expression.specs.declared.Kind.{Kind}
+use Rattle.expression.specs.declared.Kind.TheVariants.{Reference, Andor, And, Oneof}
 use Rattle.rows.specs.MirrorRows.{parts_at, Stands}
 use Rattle.instantiables.specs.MirrorRows.{Sets}
 use Rattle.expression.specs.MeaningExpression.{Terms, values}
@@ -29,50 +31,53 @@ pub record Valuing (o : Answer (List Part)) (l : List ℕ) (r : Answer ℕ) : Ty
   pub stands : FrontIf o l
 
 -- the list so far, where no limit is passed
-unfoldable pub list_at : Listed → List ℕ → Answer (List Part)
-list_at (Rows L) l = done (parts_at L.count l)
-list_at (Refused why) l = told_refusal why
+abbrev pub list_at : Result Instantiables Refusal → List ℕ → Answer (List Part)
+list_at r l = told_by (λ (L : Instantiables). parts_at L.count l) r
 
 -- it can be worked on
-unfoldable pub Ready : Listed → List ℕ → Type 0
-Ready (Rows L) l = Stands l L.count × Sets (parts_at L.count l)
-Ready (Refused why) l = Unit {0}
+unfoldable pub Ready : Result Instantiables Refusal → List ℕ → Type 0
+Ready (Ok L) l = Stands l L.count × Sets (parts_at L.count l)
+Ready (Err why) l = Unit {0}
 
 -- ---- by the node's kind
 
-pub data Kind : Type 0 where
-  andors ands oneofs : Kind
-
-unfoldable pub kind_of : ℕ → Kind
-kind_of kind = cond (eqb kind 1) andors (cond (eqb kind 2) ands oneofs)
-
--- the list at a node, of the lists of its terms
+-- the list at a node, of the lists of its terms. A reference has none, and would be a ONEOF of none
 unfoldable pub at_node : Kind → List (List Part) → Answer (List Part)
-at_node andors Ls = andor_of Ls
-at_node ands Ls = and_of Ls
-at_node oneofs Ls = oneof_of Ls
+at_node Reference Ls = oneof_of Ls
+at_node Andor Ls = andor_of Ls
+at_node And Ls = and_of Ls
+at_node Oneof Ls = oneof_of Ls
 
-unfoldable pub node_of : ℕ → Terms ℕ → Answer (List Part)
-node_of kind t = values t >>= at_node (kind_of kind)
+unfoldable pub node_of : Kind → Terms ℕ → Answer (List Part)
+node_of kind t = values t >>= at_node kind
 
 -- K is the list of the n terms so far: one term more, whose list is L
 unfoldable pub taken_in : Kind → ℕ → List Part → List Part → Answer (List Part)
-taken_in andors n K L = held (grown K L)
-taken_in ands zero K L = done L
-taken_in ands (suc n) K L = held (bitand K L)
-taken_in oneofs n K L = held (add K L)
+taken_in Reference n K L = held (add K L)
+taken_in Andor n K L = held (grown K L)
+taken_in And zero K L = done L
+taken_in And (suc n) K L = held (bitand K L)
+taken_in Oneof n K L = held (add K L)
 
-unfoldable pub with_term : ℕ → ℕ → Answer (List Part) → List Part → Answer (List Part)
-with_term kind n o L = o >>= λ K. taken_in (kind_of kind) n K L
+unfoldable pub with_term : Kind → ℕ → Answer (List Part) → List Part → Answer (List Part)
+with_term kind n o L = o >>= λ K. taken_in kind n K L
+
+-- a node has so many terms at least
+abbrev pub fewest : Kind → ℕ
+fewest Reference = 0
+fewest Andor = 1
+fewest And = 2
+fewest Oneof = 0
 
 -- 9 and 10 at a node of n terms
 unfoldable pub refusal_of : Kind → ℕ → Option ℕ
-refusal_of andors zero = some 9
-refusal_of andors (suc n) = cond (leb (suc n) most_factors) none (some 10)
-refusal_of ands zero = some 9
-refusal_of ands (suc zero) = some 9
-refusal_of ands (suc (suc n)) = none
-refusal_of oneofs n = none
+refusal_of Reference n = none
+refusal_of Andor zero = some 9
+refusal_of Andor (suc n) = cond (leb (suc n) most_factors) none (some 10)
+refusal_of And zero = some 9
+refusal_of And (suc zero) = some 9
+refusal_of And (suc (suc n)) = none
+refusal_of Oneof n = none
 
 -- they come before 11, which is the list's
 abbrev pub unless : {A : Type 0} → Option ℕ → Answer A → Answer A

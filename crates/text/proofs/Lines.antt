@@ -5,16 +5,15 @@ use mathlib.Core.Bool.{Bool, true, false}
 use Prim.Native.Nat.{ℕ, ◌+◌, ◌≤◌}
 use native.Mathlib.Omega.{arith}
 use lib.ListN.{length, length-append}
-use Rattle.text.specs.MeaningText.{blank, line_feed, comma, decimal, flag, flags, path_text, refused_line, or_refused}
+use Rattle.text.specs.MeaningText.{blank, line_feed, comma, word_refused, decimal, flag, flags, path_text, refused_line, or_refused}
 use Rattle.text.specs.MirrorText.{Puts, refused_text, start_text, next_text, Counted}
-use Rattle.text.specs.Told.{told_count, told_flags}
+use Rattle.std.specs.Prelude.{Result, Ok, Err}
+use Rattle.refusal.specs.Told.{number_of, told}
+use Rattle.text.specs.Told.{told_flags}
 use Rattle.refusal.specs.declared.Refusal.{Refusal}
-use Rattle.text.specs.declared.Count.{Count}
-use Rattle.text.specs.declared.Count.TheVariants.{Is, Refused}
-use Rattle.text.specs.declared.FlagsOf.{FlagsOf}
 use Rattle.text.specs.declared.Flags.{Flags}
-use Rattle.text.specs.declared.Flags.TheVariants as known
 use Rattle.text.proofs.Digits.{decimal_length}
+use Rattle.text.proofs.Putting.{puts_on}
 
 -- ---- which piece a test chooses
 module _ {b : Bool} {at r : ℕ} {x y : List ℕ} where
@@ -58,34 +57,38 @@ unfolding start_text
 start_length w s i = simp (length-append, path_length) (omega arith)
 
 -- ---- what is known, or the refusal
-pub count_small : (count : Count) (n : ℕ) → count ≡ Is n → Counted count → n ≤ 65535
+pub puts_refused : (n k at a b r : ℕ) (x y z w : List ℕ) → Puts word_refused at a x y → Puts blank a b y z → Puts (decimal k) b r z w → k ≡ n → Puts (refused_text n) at r x w
+unfolding refused_text
+puts_refused n k at a b r x y z w f g h e = rw (← e) (puts_on _ _ _ _ _ _ _ _ f (puts_on _ _ _ _ _ _ _ _ g h))
+
+pub count_small : (count : Result ℕ Refusal) (n : ℕ) → count ≡ Ok n → Counted count → n ≤ 65535
 count_small count n e h = rw e at h
 
-pub count_fits : (count : Count) (n : ℕ) → count ≡ Is n → Counted count → (at size : ℕ) → at + 13 ≤ size → at + length (decimal n) ≤ size
+pub count_fits : (count : Result ℕ Refusal) (n : ℕ) → count ≡ Ok n → Counted count → (at size : ℕ) → at + 13 ≤ size → at + length (decimal n) ≤ size
 count_fits count n e h at size k = omega (arith, decimal_length n (count_small count n e h))
 
 module _ {at r : ℕ} {x y : List ℕ} where
-  pub count_room : (count : Count) (n : ℕ) → count ≡ Is n → Counted count → Puts (decimal n) at r x y → r ≤ at + 13
+  pub count_room : (count : Result ℕ Refusal) (n : ℕ) → count ≡ Ok n → Counted count → Puts (decimal n) at r x y → r ≤ at + 13
   count_room count n e h f = omega (arith, f.end, decimal_length n (count_small count n e h))
 
-  pub puts_count : (count : Count) (n : ℕ) → count ≡ Is n → Puts (decimal n) at r x y → Puts (or_refused decimal (told_count count)) at r x y
+  pub puts_count : (count : Result ℕ Refusal) (n : ℕ) → count ≡ Ok n → Puts (decimal n) at r x y → Puts (or_refused decimal (told count)) at r x y
   unfolding or_refused
   puts_count count n e f = rw e f
 
-  pub puts_no_count : (count : Count) (why : Refusal) → count ≡ Refused why → Puts (refused_text why.number) at r x y
-      → Puts (or_refused decimal (told_count count)) at r x y
+  pub puts_no_count : (count : Result ℕ Refusal) (why : Refusal) → count ≡ Err why → Puts (refused_text (number_of why.reason)) at r x y
+      → Puts (or_refused decimal (told count)) at r x y
   unfolding or_refused refused_text
   puts_no_count count why e f = rw e f
 
   pub flags_room : (a b : Bool) → Puts (flags (a, b)) at r x y → r ≤ at + 13
   flags_room a b f = omega (arith, f.end, flags_length a b)
 
-  pub puts_flags : (asked : Flags) (both : FlagsOf) → asked ≡ known.Are both → Puts (flags (both.simple, both.enumeration)) at r x y
+  pub puts_flags : (asked : Result Flags Refusal) (both : Flags) → asked ≡ Ok both → Puts (flags (both.simple, both.enumeration)) at r x y
       → Puts (or_refused flags (told_flags asked)) at r x y
   unfolding or_refused
   puts_flags asked both e f = rw e f
 
-  pub puts_no_flags : (asked : Flags) (why : Refusal) → asked ≡ known.Refused why → Puts (refused_text why.number) at r x y
+  pub puts_no_flags : (asked : Result Flags Refusal) (why : Refusal) → asked ≡ Err why → Puts (refused_text (number_of why.reason)) at r x y
       → Puts (or_refused flags (told_flags asked)) at r x y
   unfolding or_refused refused_text
   puts_no_flags asked why e f = rw e f

@@ -1,12 +1,12 @@
 -- Laws of putting text at a place: a byte, one text behind another, and the bytes of a slice one by one.
 use mathlib.Core.Path.{◌≡◌, refl, sym, ◌∙◌, ap}
 use mathlib.Core.List.{List, [], ◌∷◌, ◌++◌, append_assoc}
-use Prim.Native.Nat.{ℕ, ◌+◌, ◌≤◌, ◌<◌}
+use Prim.Native.Nat.{ℕ, ◌+◌, ◌-◌, ◌≤◌}
 use native.Mathlib.Numerals.{add-one}
-use native.Mathlib.Nat.{add-zero}
 use native.Mathlib.Omega.{arith}
-use lib.ListN.{length, take, drop, set, get_or, length-set, length-append, take-append-drop}
-use lib.Seq.{length-take-le, take_all, take-suc, take_at, drop_at, drop-drop, set_split}
+use lib.ListN.{length, take, drop, set, length-set, length-drop, length-append, take-append-drop}
+use borrow.Rule.Slice.PartMut.{put_mid}
+use lib.Seq.{length-take-le, take_at, drop_at, drop-drop, set_split}
 use Rattle.text.specs.MirrorText.{Puts}
 
 pub puts_none : (at : ℕ) (l : List ℕ) → at ≤ length l → Puts [] at at l l
@@ -54,31 +54,16 @@ puts_on s t a b c x y z f g =
           g.put ∙ rw (front s a b x y f, k, append_assoc (take a x) s (t ++ drop c x), append_assoc s t (drop c x));
     }
 
--- ---- the loop over a slice's bytes: i of them are put
-pub record Copying (bytes : List ℕ) (at i : ℕ) (before after : List ℕ) : Type 0 where
-  pub small : i ≤ length bytes
-  pub inside : at + length bytes ≤ length before
-  pub done : Puts (take i bytes) at (at + i) before after
+-- ---- a slice's bytes
+pub puts_all : (bytes put : List ℕ) (at : ℕ) (l : List ℕ) → put ≡ bytes → at + length bytes ≤ length l
+    → Puts bytes at (at + length bytes) l (put_mid at (at + length bytes - at) l put)
+puts_all bytes put at l e h =
+    let n : at + length bytes - at ≡ length bytes = omega arith in
+    record {
+      end = refl;
+      room = h;
+      size = rw (e, n) (let k : at ≤ length l = omega arith in simp (length-append, length-drop, length-take-le at l k) (omega arith));
+      put = rw (e, n) (ap (λ m. take at l ++ (bytes ++ m)) (drop-drop (length bytes) at l));
+    }
 
-pub copying_start : (bytes : List ℕ) (at : ℕ) (l : List ℕ) → at + length bytes ≤ length l → Copying bytes at 0 l l
-copying_start bytes at l h = record { small = omega arith; inside = h; done = rw (add-zero at) (puts_none at l (omega arith)) }
-
-module _ (bytes : List ℕ) (at i : ℕ) (before after : List ℕ) (f : Copying bytes at i before after) where
-  pub copying_room : i < length bytes → at + i < length after
-  copying_room h = omega (arith, f.inside, f.done.size)
-
-  pub copying_next : i < length bytes → Copying bytes at (i + 1) before (set after (at + i) (get_or bytes i 0))
-  copying_next h =
-      let e : at + (i + 1) ≡ at + i + 1 = omega arith in
-      record {
-        small = omega arith;
-        inside = f.inside;
-        done =
-            rw (e, add-one i, take-suc bytes i 0 h)
-            (puts_on _ _ _ _ _ _ _ _ f.done (puts_byte (at + i) (get_or bytes i 0) after (omega (arith, f.inside, f.done.size))));
-      }
-
-  pub copying_done : length bytes ≤ i → Puts bytes at (at + i) before after
-  copying_done h = rw (take_all i bytes h) at f.done
-
-pub ruleset putting = (puts_byte, puts_on, copying_start, copying_room, copying_next, copying_done)
+pub ruleset putting = (puts_byte, puts_on)

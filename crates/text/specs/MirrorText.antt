@@ -1,8 +1,7 @@
 -- What the code puts into lent memory.
-use Rattle.std.specs.Prelude.{◌≡◌, List, ◌++◌, Bool, true, false, ℕ, ◌+◌, ◌≤◌, length, take, drop}
+use Rattle.std.specs.Prelude.{◌≡◌, List, ◌++◌, Bool, true, false, ℕ, ◌+◌, ◌≤◌, Result, IfOk, length, take, drop}
+use Rattle.refusal.specs.declared.Refusal.{Refusal}
 use Rattle.text.specs.MeaningText.{blank, comma, word_refused, decimal, path_text, joined}
-use Rattle.text.specs.declared.Count.{Count}
-use Rattle.text.specs.declared.Count.TheVariants.{Is, Refused}
 
 -- a text stands from `at` to `r`, and all else is as it was
 pub record Puts (text : List ℕ) (at r : ℕ) (before after : List ℕ) : Type 0 where
@@ -29,6 +28,5 @@ unfoldable pub part_text : ℕ → (paths : List (List ℕ)) → List ℕ
 part_text i paths = decimal i ++ (blank ++ joined paths)
 
 -- a count that has at most five digits
-abbrev pub Counted : Count → Type 0
-Counted (Is n) = n ≤ 65535
-Counted (Refused why) = Unit {0}
+abbrev pub Counted : Result ℕ Refusal → Type 0
+Counted count = IfOk count (λ n. n ≤ 65535)

@@ -2,30 +2,18 @@
 #![tactic(auto)]
 
 ghost use Rattle.std.specs.Prelude.{◌≡◌, [], ◌∷◌, ◌++◌, ◌+◌, ◌≤◌, ◌<◌, length};
+ghost use Rattle.refusal.specs.Told.{number_of, told};
 ghost use Rattle.text.specs.MeaningText.{blank, line_feed, decimal, flag, flags, path_text, refused_line, or_refused, supertype_line, type_line};
 ghost use Rattle.text.specs.MirrorText.{Puts, refused_text, start_text, next_text, Counted};
-ghost use Rattle.text.specs.Told.{told_count, told_flags};
+ghost use Rattle.text.specs.Told.{told_flags};
 
-use refusal::Refusal;
+use refusal::{Reason, Refusal};
 
-// How many sets an entity has, or why that is not known.
-#[derive(Clone, Copy)]
-pub enum Count {
-    Is(usize),
-    Refused(Refusal),
-}
-
-#[derive(Clone, Copy)]
-pub struct FlagsOf {
+// What is asked of a type.
+#[derive(Clone, Copy, Debug, PartialEq, Eq)]
+pub struct Flags {
     pub simple: bool,
     pub enumeration: bool,
-}
-
-// What is asked of a type, or why that is not known.
-#[derive(Clone, Copy)]
-pub enum Flags {
-    Are(FlagsOf),
-    Refused(Refusal),
 }
 
 pub fn put_byte(out: &mut [u8], at: usize, byte: u8) -> usize
@@ -40,12 +28,9 @@ pub fn put_bytes(out: &mut [u8], at: usize, bytes: &[u8]) -> usize
     requires { at + length bytes.now ≤ length out.old }
     ensures { Puts bytes.now at result out.old out.new }
 {
-    let mut i = 0;
-    while i < bytes.len() {
-        out[at + i] = bytes[i];
-        i += 1;
-    }
-    at + i
+    let end = at + bytes.len();
+    out[at..end].copy_from_slice(bytes);
+    end
 }
 
 // The character of a digit.
@@ -88,26 +73,27 @@ pub fn put_path(out: &mut [u8], at: usize, schema: &[u8], item: &[u8]) -> usize
 }
 
 // The word and the number of a refusal, without its place.
-fn put_refused(out: &mut [u8], at: usize, number: u8) -> usize
+fn put_refused(out: &mut [u8], at: usize, reason: Reason) -> usize
     requires { at + 13 ≤ length out.old }
-    ensures { Puts (refused_text number) at result out.old out.new × (result ≤ at + 13) }
+    ensures { Puts (refused_text (number_of reason)) at result out.old out.new × (result ≤ at + 13) }
 {
     let space = put_bytes(out, at, b"refused");
     let digits = put_byte(out, space, b' ');
-    put_decimal(out, digits, number as usize)
+    let number = u8::from(reason);
+    put_decimal(out, digits, usize::from(number))
 }
 
-fn put_count(out: &mut [u8], at: usize, count: Count) -> usize
+fn put_count(out: &mut [u8], at: usize, count: Result<usize, Refusal>) -> usize
     requires { Counted count × (at + 13 ≤ length out.old) }
-    ensures { Puts (or_refused decimal (told_count count)) at result out.old out.new × (result ≤ at + 13) }
+    ensures { Puts (or_refused decimal (told count)) at result out.old out.new × (result ≤ at + 13) }
 {
     match count {
-        Count::Is(n) => put_decimal(out, at, n),
-        Count::Refused(why) => put_refused(out, at, why.number),
+        Ok(number) => put_decimal(out, at, number),
+        Err(why) => put_refused(out, at, why.reason),
     }
 }
 
-fn put_both(out: &mut [u8], at: usize, both: FlagsOf) -> usize
+fn put_both(out: &mut [u8], at: usize, both: Flags) -> usize
     requires { at + 3 ≤ length out.old }
     ensures { Puts (flags (both.simple, both.enumeration)) at result out.old out.new }
 {
@@ -116,13 +102,13 @@ fn put_both(out: &mut [u8], at: usize, both: FlagsOf) -> usize
     put_flag(out, second, both.enumeration)
 }
 
-fn put_flags(out: &mut [u8], at: usize, asked: Flags) -> usize
+fn put_flags(out: &mut [u8], at: usize, asked: Result<Flags, Refusal>) -> usize
     requires { at + 13 ≤ length out.old }
     ensures { Puts (or_refused flags (told_flags asked)) at result out.old out.new × (result ≤ at + 13) }
 {
     match asked {
-        Flags::Are(both) => put_both(out, at, both),
-        Flags::Refused(why) => put_refused(out, at, why.number),
+        Ok(both) => put_both(out, at, both),
+        Err(why) => put_refused(out, at, why.reason),
     }
 }
 
@@ -136,9 +122,9 @@ pub fn line_end(out: &mut [u8], at: usize) -> usize
 // A place of 64 bits has at most 20 digits.
 pub fn refused_line(out: &mut [u8], refusal: Refusal) -> usize
     requires { 40 ≤ length out.old }
-    ensures { Puts (refused_line refusal.number refusal.place) 0 result out.old out.new }
+    ensures { Puts (refused_line (number_of refusal.reason) refusal.place) 0 result out.old out.new }
 {
-    let space = put_refused(out, 0, refusal.number);
+    let space = put_refused(out, 0, refusal.reason);
     let place = put_byte(out, space, b' ');
     let end = put_decimal(out, place, refusal.place);
     line_end(out, end)
@@ -155,16 +141,21 @@ fn put_start(out: &mut [u8], word: &[u8], schema: &[u8], item: &[u8]) -> usize
     put_byte(out, end, b' ')
 }
 
-pub fn supertype_line(out: &mut [u8], schema: &[u8], item: &[u8], count: Count) -> usize
+pub fn supertype_line(
+    out: &mut [u8],
+    schema: &[u8],
+    item: &[u8],
+    count: Result<usize, Refusal>,
+) -> usize
     requires { Counted count × (length schema.now + length item.now + 26 ≤ length out.old) }
-    ensures { Puts (supertype_line schema.now item.now (told_count count)) 0 result out.old out.new }
+    ensures { Puts (supertype_line schema.now item.now (told count)) 0 result out.old out.new }
 {
     let start = put_start(out, b"supertype", schema, item);
     let end = put_count(out, start, count);
     line_end(out, end)
 }
 
-pub fn type_line(out: &mut [u8], schema: &[u8], item: &[u8], asked: Flags) -> usize
+pub fn type_line(out: &mut [u8], schema: &[u8], item: &[u8], asked: Result<Flags, Refusal>) -> usize
     requires { length schema.now + length item.now + 21 ≤ length out.old }
     ensures { Puts (type_line schema.now item.now (told_flags asked)) 0 result out.old out.new }
 {

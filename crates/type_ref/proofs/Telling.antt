@@ -7,6 +7,8 @@ use borrow.Author.Tests.{leb-true}
 use lib.Dec.{leb}
 use lib.ListN.{length}
 use Rattle.refusal.specs.MeaningAnswer.{Answer, done, refused, mapped, or_else, ◌>>=◌}
+use Rattle.std.specs.Prelude.{Result, Ok, Err}
+use Rattle.refusal.specs.Told.{told, number_of}
 use Rattle.refusal.specs.declared.Refusal.{Refusal}
 use Rattle.refusal.proofs.Same.{same_refusal}
 use Rattle.grammar.specs.MeaningReading.{Reading}
@@ -27,10 +29,7 @@ use Rattle.merging.specs.MeaningMerging.{Combined, find}
 use Rattle.gathering.specs.MeaningCombined.{supertypes}
 use Rattle.supertypes.specs.MeaningWorkspace.{enough, left}
 use Rattle.constraints.specs.MeaningQuestions.{is_some, supertype_question}
-use Rattle.constraints.specs.Told.{told_decision}
 use Rattle.constraints.specs.Promises.{PromiseSupertype}
-use Rattle.constraints.specs.declared.Decision.{Decision}
-use Rattle.constraints.specs.declared.Decision.TheVariants as decision
 use Rattle.named_types.specs.MeaningWalk.{Walks}
 use Rattle.named_types.proofs.Proved.{walks_on, walks_once}
 use Rattle.type_ref.specs.MeaningTypes as meaning
@@ -106,8 +105,8 @@ written q p e (Named x) g = as_asked q p e x.path g
 written q p e (Entity x) g = as_asked q p e x.path g
 written q p e (Refused why) g = tt
 
-module _ (rd : Reading) (s q work work' : List ℕ) (d : Decision) (P : PromiseSupertype rd s q work d work') where
-  told_so : Answers rd s (enough work) (path_query q) (supertype_question rd (schemas_in s)) (told_decision d)
+module _ (rd : Reading) (s q work work' : List ℕ) (d : Result Bool Refusal) (P : PromiseSupertype rd s q work d work') where
+  told_so : Answers rd s (enough work) (path_query q) (supertype_question rd (schemas_in s)) (told d)
   unfolding PromiseSupertype
   told_so = P.0
 
@@ -115,14 +114,14 @@ module _ (rd : Reading) (s q work work' : List ℕ) (d : Decision) (P : PromiseS
   unfolding PromiseSupertype
   left_so = P.1
 
-  pub from_refused : (why : Refusal) → d ≡ decision.Refused why → PromiseType rd s q work (Refused why) work'
-  unfolding PromiseType Answers in_order told_decision told_type_ref Written
+  pub from_refused : (why : Refusal) → d ≡ Err why → PromiseType rd s q work (Refused why) work'
+  unfolding PromiseType Answers in_order told_type_ref Written
   from_refused why e =
       let w = walk_of rd (schemas_in s) (path_query q) in
-      let a = subst (λ (x : Decision). Answers rd s (enough work) (path_query q) (supertype_question rd (schemas_in s)) (told_decision x)) e told_so in
-      (w.0, w.1, (a.0, a.1, refused_too (supertype_question rd (schemas_in s)) (from_path rd (schemas_in s) w.0) why.number why.place (leb (length s) most_bytes) (enough work) a.0 (path_query q) (λ p z f. gathered_refused rd (schemas_in s) w.0 p why.number why.place f) a.2), tt, left_so)
+      let a = subst (λ (x : Result Bool Refusal). Answers rd s (enough work) (path_query q) (supertype_question rd (schemas_in s)) (told x)) e told_so in
+      (w.0, w.1, (a.0, a.1, refused_too (supertype_question rd (schemas_in s)) (from_path rd (schemas_in s) w.0) (number_of why.reason) why.place (leb (length s) most_bytes) (enough work) a.0 (path_query q) (λ p z f. gathered_refused rd (schemas_in s) w.0 p (number_of why.reason) why.place f) a.2), tt, left_so)
 
-  module _ (b : Bool) (e : told_decision d ≡ done b) where
+  module _ (b : Bool) (e : told d ≡ done b) where
     asked_so : Answered rd s (enough work) (path_query q) (supertype_question rd (schemas_in s)) b
     asked_so = was_answered rd s (enough work) (path_query q) (supertype_question rd (schemas_in s)) b (subst (Answers rd s (enough work) (path_query q) (supertype_question rd (schemas_in s))) e told_so)
 
@@ -142,23 +141,13 @@ module _ (rd : Reading) (s q work work' : List ℕ) (d : Decision) (P : PromiseS
           left_so,
         )
 
-  pub yes_short : d ≡ decision.Yes → length s ≤ 65535
-  unfolding told_decision
-  yes_short e = short true (ap told_decision e)
+  pub asked_short : (b : Bool) → d ≡ Ok b → length s ≤ 65535
+  asked_short b e = short b (ap told e)
 
-  pub no_short : d ≡ decision.No → length s ≤ 65535
-  unfolding told_decision
-  no_short e = short false (ap told_decision e)
+  pub from_asked : (b : Bool) → d ≡ Ok b → (r : TypeRef) → ((p : Path) → path_query q ≡ done p → TypedAs rd (schemas_in s) q b p r) → PromiseType rd s q work r work'
+  from_asked b e r T = typed_so b (ap told e) r T
 
-  pub from_yes : d ≡ decision.Yes → (r : TypeRef) → ((p : Path) → path_query q ≡ done p → TypedAs rd (schemas_in s) q true p r) → PromiseType rd s q work r work'
-  unfolding told_decision
-  from_yes e r T = typed_so true (ap told_decision e) r T
-
-  pub from_no : d ≡ decision.No → (r : TypeRef) → ((p : Path) → path_query q ≡ done p → TypedAs rd (schemas_in s) q false p r) → PromiseType rd s q work r work'
-  unfolding told_decision
-  from_no e r T = typed_so false (ap told_decision e) r T
-
-pub ruleset telling = (from_refused, yes_short, no_short, from_yes, from_no)
+pub ruleset telling = (from_refused, asked_short, from_asked)
 
 -- ---- one input allows one outcome
 

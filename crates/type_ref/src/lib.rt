@@ -14,13 +14,12 @@ ghost use Rattle.declarations.specs.MeaningNamespace.{schemas_in};
 ghost use Rattle.type_ref.specs.Promises.{PromiseType};
 ghost use Rattle.type_ref.specs.MirrorCode.{NamedAs, TypedAs};
 
-use constraints::{Decision, is_supertype_in};
-use lookup::Sought;
-use named_types::{Walked, is_enumeration, walk};
+use constraints::is_supertype_in;
+use named_types::{is_enumeration, walk};
 use query::read_path;
-use refusal::Refusal;
+use refusal::{Reason, Refusal};
 use resolving::number_for;
-use scope::Path;
+use scope::{Path, ScopeType};
 use sheet::Reading;
 
 #[derive(Clone, Copy)]
@@ -36,6 +35,7 @@ pub struct EntityType {
     pub is_supertype: bool,
 }
 
+// An enum of its own in place of a Result: document 01 has the refusal as a case beside the two kinds.
 #[derive(Clone, Copy)]
 pub enum TypeRef {
     Named(NamedType),
@@ -48,40 +48,34 @@ fn named(reading: Reading, sheet: &[u8], query: &[u8], path: Path) -> TypeRef
     requires { (length sheet.now ≤ 65535) × Spans query.now path.scope.one × Spans query.now path.item }
     ensures { NamedAs (told_reading reading) (schemas_in sheet.now) query.now path result }
 {
-    let Sought::At(number) = number_for(reading, sheet, query, path) else {
-        return TypeRef::Refused(Refusal::of(7));
+    let Some(first) = number_for(reading, sheet, query, path) else {
+        return TypeRef::Refused(Reason::NoDeclaration.into());
     };
-    let is_enumerate = is_enumeration(sheet, number);
+    let number = usize::from(first);
     match walk(reading, sheet, number) {
-        Walked::Ends(is_simple) => TypeRef::Named(NamedType {
+        Ok(is_simple) => TypeRef::Named(NamedType {
             path,
             is_simple,
-            is_enumerate,
+            is_enumerate: is_enumeration(sheet, number),
         }),
-        Walked::Refused(why) => TypeRef::Refused(why),
+        Err(why) => TypeRef::Refused(why),
     }
 }
 
 // By the kind of the path that is asked for: nothing stands in its way, and it is a supertype or not.
-fn typed(reading: Reading, sheet: &[u8], query: &[u8], supertype: bool) -> TypeRef
+fn typed(reading: Reading, sheet: &[u8], query: &[u8], is_supertype: bool) -> TypeRef
     requires { length sheet.now ≤ 65535 }
-    ensures { (p : meaning.Path) → path_query query.now ≡ done p → TypedAs (told_reading reading) (schemas_in sheet.now) query.now supertype p result }
+    ensures { (p : meaning.Path) → path_query query.now ≡ done p → TypedAs (told_reading reading) (schemas_in sheet.now) query.now is_supertype p result }
 {
-    let asked = read_path(query);
-    let path = asked.path;
-    let item = path.item;
-    let kind = item.kind;
-    let k = kind.place();
-    if k == 0 {
-        return TypeRef::Entity(EntityType {
-            path,
-            is_supertype: supertype,
-        });
+    let path = match read_path(query) {
+        Ok(path) => path,
+        Err(why) => return TypeRef::Refused(why),
+    };
+    match path.item.kind {
+        ScopeType::Entity => TypeRef::Entity(EntityType { path, is_supertype }),
+        ScopeType::Type => named(reading, sheet, query, path),
+        _ => TypeRef::Refused(Reason::NoType.into()),
     }
-    if k == 9 {
-        return named(reading, sheet, query, path);
-    }
-    TypeRef::Refused(Refusal::of(14))
 }
 
 // What the path is: an entity, or a type.
@@ -96,8 +90,7 @@ pub fn from_path_in(reading: Reading, sheet: &[u8], query: &[u8], workspace: &mu
     ensures { PromiseType (told_reading reading) sheet.now query.now workspace.old result workspace.new }
 {
     match is_supertype_in(reading, sheet, query, workspace) {
-        Decision::Yes => typed(reading, sheet, query, true),
-        Decision::No => typed(reading, sheet, query, false),
-        Decision::Refused(why) => TypeRef::Refused(why),
+        Ok(is_supertype) => typed(reading, sheet, query, is_supertype),
+        Err(why) => TypeRef::Refused(why),
     }
 }

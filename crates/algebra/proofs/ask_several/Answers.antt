@@ -1,13 +1,13 @@
--- `ask_several` meets its contract.
 use borrow.Author.Rules.{rules}
+use Rattle.std.proofs.lemmas.Result.{err_from_is_err_and}
 use Rattle.algebra.proofs.Asking.{asking_several}
 use Rattle.algebra.proofs.ask_several.Goals as goal
 
-pub returns-in-Refused : goal.returns-in-Refused
-returns-in-Refused c = search (asking_several, rules)
+pub returns-in_err-in_order : goal.returns-in_err-in_order
+returns-in_err-in_order g c = let p = err_from_is_err_and c.from_residual.result c.from_residual.ensures.1 in rw (p.1, p.2) (search (asking_several, c.in_err-in_order.was, rules))
 
-pub value_of_all-listed-requires : goal.value_of_all-listed-requires
-value_of_all-listed-requires c = search (asking_several, rules)
+pub value-answer-requires : goal.value-answer-requires
+value-answer-requires g c = search (asking_several, c.in_ok-in_order.was, rules)
 
 pub returns : goal.returns
-returns c = search (asking_several, rules)
+returns g c = search (asking_several, c.in_ok-in_order.was, rules)

@@ -1,16 +1,16 @@
--- `compare` meets its contract.
 use borrow.Author.Rules.{rules}
+use Rattle.std.proofs.lemmas.Result.{err_from_is_err_and}
 use Rattle.algebra.proofs.Asking.{comparing}
 use Rattle.algebra.proofs.compare.Goals as goal
 
-pub returns-in-Refused : goal.returns-in-Refused
-returns-in-Refused c = search (comparing, rules)
+pub returns-in_err-in_order : goal.returns-in_err-in_order
+returns-in_err-in_order c = let p = err_from_is_err_and c.from_residual.result c.from_residual.ensures.1 in rw (p.1, p.2) (search (comparing, c.in_err-in_order.was, rules))
 
-pub read-requires : goal.read-requires
-read-requires c = search (comparing, rules)
+pub names_at-names-requires : goal.names_at-names-requires
+names_at-names-requires c = search (comparing, c.in_ok-in_order.was, rules)
 
-pub read-requires-2 : goal.read-requires-2
-read-requires-2 c = search (comparing, rules)
+pub names_at-others-requires : goal.names_at-others-requires
+names_at-others-requires c = search (comparing, c.in_ok-in_order.was, rules)
 
 pub returns : goal.returns
-returns c = search (comparing, rules)
+returns c = search (comparing, c.in_ok-in_order.was, rules)

@@ -1,15 +1,12 @@
 -- `decided`: gathered, then decided.
-use Rattle.namespace.proofs.Asking.{path_scope, path_item}
-use Rattle.supertypes.proofs.Asking.{gathered_stood, gathered_short}
-use Rattle.constraints.proofs.Questions.{decided_refused, decided_done}
-use borrow.Author.Rules.{rules}
+use Rattle.constraints.proofs.Questions.{handed_up, path_stands, decided_refused, decided_done}
 use Rattle.constraints.proofs.decided.Goals as goal
 
+pub returns-in_err-path : goal.returns-in_err-path
+returns-in_err-path c = decided_refused _ _ _ _ _ c.read_path.ensures _ _ c.gathered.ensures _ c.in_err-path.was _ (handed_up _ _ c.from_residual.ensures.1)
+
 pub owns-requires-clause-sheet_len_bound : goal.owns-requires-clause-sheet_len_bound
-owns-requires-clause-sheet_len_bound c = search (gathered_stood, gathered_short, path_scope, path_item, decided_refused, decided_done, rules)
+owns-requires-clause-sheet_len_bound c = path_stands _ _ _ _ _ c.read_path.ensures _ _ c.gathered.ensures _ _ c.in_ok-path.was
 
-pub returns-in-Refused : goal.returns-in-Refused
-returns-in-Refused c = search (gathered_stood, gathered_short, path_scope, path_item, decided_refused, decided_done, rules)
-
-pub returns-in-Done : goal.returns-in-Done
-returns-in-Done c = search (gathered_stood, gathered_short, path_scope, path_item, decided_refused, decided_done, rules)
+pub returns : goal.returns
+returns c = decided_done _ _ _ _ _ c.read_path.ensures _ _ c.gathered.ensures _ _ c.in_ok-path.was _ c.owns.ensures

@@ -1,7 +1,7 @@
--- `number_of_in`: the row is read first.
-use Rattle.constraints.proofs.Questions.{lists_stand, number_promised}
+-- `number_of_in`: answered, then settled.
+use Rattle.constraints.proofs.Questions.{settled}
 use borrow.Author.Rules.{rules}
 use Rattle.constraints.proofs.number_of_in.Goals as goal
 
 pub returns : goal.returns
-returns c = search (lists_stand, number_promised, rules)
+returns c = search (settled, rules)

@@ -1,7 +1,7 @@
--- `row_at_in`: valued, handed out, settled.
-use Rattle.constraints.proofs.Questions.{lists_stand, row_promised}
+-- `row_at_in`: answered, then settled.
+use Rattle.constraints.proofs.Questions.{settled}
 use borrow.Author.Rules.{rules}
 use Rattle.constraints.proofs.row_at_in.Goals as goal
 
 pub returns : goal.returns
-returns c = search (lists_stand, row_promised, rules)
+returns c = search (settled, rules)

@@ -1,7 +1,7 @@
--- `supertype_at_in`: counted, then settled.
-use Rattle.constraints.proofs.Questions.{kth_promised}
+-- `supertype_at_in`: answered, then settled.
+use Rattle.constraints.proofs.Questions.{settled}
 use borrow.Author.Rules.{rules}
 use Rattle.constraints.proofs.supertype_at_in.Goals as goal
 
 pub returns : goal.returns
-returns c = search (kth_promised, rules)
+returns c = search (settled, rules)

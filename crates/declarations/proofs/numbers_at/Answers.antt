@@ -1,25 +1,17 @@
 use borrow.Author.Rules.{rules}
 use Rattle.lookup.proofs.Fields.{fields}
+use Rattle.lookup.proofs.Turning.{turning}
 use Rattle.declarations.proofs.Walks.{counting}
 use Rattle.declarations.proofs.numbers_at.Goals as goal
 
-pub returns-in_default : goal.returns-in_default
-returns-in_default c = search (counting, fields, rules)
+pub loop-field-preserved-in-32 : goal.loop-field-preserved-in-32
+loop-field-preserved-in-32 c = search (counting, turning, fields, rules)
 
-pub loop-tag-smaller-then-tag-eq32 : goal.loop-tag-smaller-then-tag-eq32
-loop-tag-smaller-then-tag-eq32 c = search (counting, fields, rules)
+pub loop-field-preserved-in-48 : goal.loop-field-preserved-in-48
+loop-field-preserved-in-48 c = search (counting, turning, fields, rules)
 
-pub loop-tag-preserved-then-tag-eq32 : goal.loop-tag-preserved-then-tag-eq32
-loop-tag-preserved-then-tag-eq32 c = search (counting, fields, rules)
+pub loop-field-preserved : goal.loop-field-preserved
+loop-field-preserved c = search (counting, turning, fields, rules)
 
-pub loop-tag-smaller-then-tag-eq48 : goal.loop-tag-smaller-then-tag-eq48
-loop-tag-smaller-then-tag-eq48 c = search (counting, fields, rules)
-
-pub loop-tag-preserved-then-tag-eq48 : goal.loop-tag-preserved-then-tag-eq48
-loop-tag-preserved-then-tag-eq48 c = search (counting, fields, rules)
-
-pub loop-tag-smaller : goal.loop-tag-smaller
-loop-tag-smaller c = search (counting, fields, rules)
-
-pub loop-tag-preserved : goal.loop-tag-preserved
-loop-tag-preserved c = search (counting, fields, rules)
+pub returns : goal.returns
+returns c = search (counting, turning, fields, rules)

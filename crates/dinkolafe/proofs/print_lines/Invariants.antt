@@ -4,8 +4,8 @@ use Rattle.sheet.specs.Told.{told_reading}
 use Rattle.lister.specs.MirrorRest.{AtCursor, left}
 use Rattle.dinkolafe.proofs.print_lines.Given as goal
 
-abbrev pub invariant-loop-reading : goal.invariant-loop-reading
-invariant-loop-reading g l = AtCursor (told_reading l.reading) l.sheet l.names l.workspace l.cursor × (l.at + 800 ≤ length l.out)
+abbrev pub invariant-loop-line : goal.invariant-loop-line
+invariant-loop-line g l = AtCursor (told_reading l.reading) l.sheet l.names l.workspace l.cursor × (l.at + 800 ≤ length l.out)
 
-abbrev pub decreases-loop-reading : goal.decreases-loop-reading
-decreases-loop-reading g l = left l.cursor
+abbrev pub decreases-loop-line : goal.decreases-loop-line
+decreases-loop-line g l = left l.cursor

@@ -1,8 +1,11 @@
 -- What the two calls owe: a node is long enough, its terms are nodes, and the walk goes on by `onward`.
-use mathlib.Core.Path.{◌∙◌}
+use mathlib.Core.Path.{◌≡◌, ap, ◌∙◌}
+use Prim.Native.Nat.{ℕ}
+use lib.ListN.{length, take, drop}
+use borrow.Author.Tests.{tests}
 use native.Mathlib.Omega.{arith}
 use borrow.Author.Rules.{rules}
-use Rattle.evaluation.proofs.Walking.{node_long, tall, leaf, inner, opened, ahead, walking, child, child_room, ready_own, ready_child, onward, third_inside, end_inside, handed}
+use Rattle.evaluation.proofs.Walking.{node_long, tall, leaf, inner, opened, ahead, walking, child, child_room, ready_own, ready_child, onward, third_inside, span_inside, one_more, fewer, ended, handed}
 use Rattle.evaluation.proofs.+eval_node_eval_terms.Goals as goal
 
 pub eval_node-bounds-nodes-0 : goal.eval_node-bounds-nodes-0
@@ -11,11 +14,11 @@ eval_node-bounds-nodes-0 t c = omega (arith, node_long c.args.nodes.now c.requir
 pub eval_node-bounds-nodes-1 : goal.eval_node-bounds-nodes-1
 eval_node-bounds-nodes-1 t c = omega (arith, node_long c.args.nodes.now c.requires.node.expr c.requires.node.is)
 
-pub eval_node-single-list-requires : goal.eval_node-single-list-requires
-eval_node-single-list-requires t c = omega (arith, c.requires.depth_in_bounds, c.requires.node.high, tall c.requires.node.expr)
+pub eval_node-single-requires : goal.eval_node-single-requires
+eval_node-single-requires t c = omega (arith, c.requires.depth_in_bounds, c.requires.node.high, tall c.requires.node.expr)
 
-pub eval_node-returns-then-kind-eq-REFERENCE : goal.eval_node-returns-then-kind-eq-REFERENCE
-eval_node-returns-then-kind-eq-REFERENCE t c e h = leaf _ e c.single-list.result c.args.rows.now _ h c.if-kind-eq-REFERENCE.true c.single-list.ensures.0 c.single-list.ensures.1
+pub eval_node-returns-in-Reference : goal.eval_node-returns-in-Reference
+eval_node-returns-in-Reference t c e h = leaf _ e c.single.result c.args.rows.now _ h (search rules) c.single.ensures.0 c.single.ensures.1
 
 pub eval_node-slice_bounds-eval_terms-count : goal.eval_node-slice_bounds-eval_terms-count
 eval_node-slice_bounds-eval_terms-count t c = omega (arith, node_long c.args.nodes.now c.requires.node.expr c.requires.node.is)
@@ -30,47 +33,67 @@ pub eval_node-eval_terms-requires : goal.eval_node-eval_terms-requires
 eval_node-eval_terms-requires t c = (
   omega (arith, c.decreases, c.requires.node.high, tall c.requires.node.expr),
   (
-    inner _ _ c.requires.node.expr c.requires.node.is c.requires.node.high c.if-kind-eq-REFERENCE.false,
+    inner _ _ c.requires.node.expr c.requires.node.is c.requires.node.high (λ e. c.in_default.not-Reference (c.from.ensures ∙ e)),
     (omega (arith, c.requires.depth_in_bounds, c.requires.node.high, tall c.requires.node.expr), c.requires.depth_in_bounds.1, c.requires.depth_in_bounds.2),
   ),
 )
 
-pub eval_node-returns : goal.eval_node-returns
-eval_node-returns t c e h = opened _ e _ _ h c.if-kind-eq-REFERENCE.false c.eval_terms.ensures
+pub eval_node-returns-in_default : goal.eval_node-returns-in_default
+eval_node-returns-in_default t c e h = opened _ e _ _ _ h c.from.ensures c.in_default.not-Reference c.eval_terms.ensures
 
-pub eval_terms-loop-at-init : goal.eval_terms-loop-at-init
-eval_terms-loop-at-init t c = search (walking, rules)
+pub eval_terms-loop-left-init : goal.eval_terms-loop-left-init
+eval_terms-loop-left-init t c = search (walking, rules)
 
-pub eval_terms-bounds-terms-at : goal.eval_terms-bounds-terms-at
-eval_terms-bounds-terms-at t c = third_inside c.loop-at.invariant c.loop-at-test.true
+pub eval_terms-bounds-left-2 : goal.eval_terms-bounds-left-2
+eval_terms-bounds-left-2 t c =
+    let more : length c.loop-left.left.now ≡ 0 → ⊥ = search (rules, tests) in
+    third_inside c.loop-left.invariant more
 
-pub eval_terms-slice_bounds-eval_node-end : goal.eval_terms-slice_bounds-eval_node-end
-eval_terms-slice_bounds-eval_node-end t c = end_inside c.loop-at.invariant c.loop-at-test.true
+pub eval_terms-split_at-requires : goal.eval_terms-split_at-requires
+eval_terms-split_at-requires t c =
+    let more : length c.loop-left.left.now ≡ 0 → ⊥ = search (rules, tests) in
+    omega (arith, span_inside c.loop-left.invariant more, c.from.ensures)
 
-pub eval_terms-eval_node-answer-requires : goal.eval_terms-eval_node-answer-requires
-eval_terms-eval_node-answer-requires t c = (
-  omega (arith, c.decreases, (ahead c.loop-at.invariant c.loop-at-test.true).high, c.loop-at.invariant.left_high),
-  (
-    child c.loop-at.invariant c.loop-at-test.true,
-    (child_room c.loop-at.invariant c.loop-at-test.true, c.loop-at.invariant.factor_room, c.loop-at.invariant.scratch_room),
-  ),
-)
+pub eval_terms-eval_node-requires : goal.eval_terms-eval_node-requires
+eval_terms-eval_node-requires t c =
+    let more : length c.loop-left.left.now ≡ 0 → ⊥ = search (rules, tests) in (
+      omega (arith, c.decreases, (ahead c.loop-left.invariant more).high, c.loop-left.invariant.left_high),
+      (
+        child c.loop-left.invariant more c.split_at.result.0.now (c.split_at.ensures.front ∙ ap (λ (k : ℕ). take k c.loop-left.left.now) c.from.ensures),
+        (child_room c.loop-left.invariant more, c.loop-left.invariant.factor_room, c.loop-left.invariant.scratch_room),
+      ),
+    )
 
-pub eval_terms-returns-in_default : goal.eval_terms-returns-in_default
-eval_terms-returns-in_default t c =
-    handed c.loop-at.invariant c.loop-at-test.true c.eval_node-answer.result c.eval_node-answer.new.rows c.eval_node-answer.auto.rows c.eval_node-answer.ensures _ c.in_default.is _
+pub eval_terms-returns-in_err-new : goal.eval_terms-returns-in_err-new
+eval_terms-returns-in_err-new t c =
+    let more : length c.loop-left.left.now ≡ 0 → ⊥ = search (rules, tests) in
+    handed c.loop-left.invariant more c.eval_node.result c.eval_node.new.rows c.eval_node.auto.rows c.split_at.result.0.now (c.split_at.ensures.front ∙ ap (λ (k : ℕ). take k c.loop-left.left.now) c.from.ensures) c.eval_node.ensures _ c.in_err-new.was c.from_residual.result (search rules) _
 
 pub eval_terms-take_in-list-requires-clause-ready : goal.eval_terms-take_in-list-requires-clause-ready
 eval_terms-take_in-list-requires-clause-ready t c =
-    let rc = ready_child c.loop-at.invariant c.loop-at-test.true c.eval_node-answer.result c.eval_node-answer.new.rows c.eval_node-answer.auto.rows c.eval_node-answer.ensures _ c.in-Is.is in
-    (ready_own c.loop-at.invariant c.loop-at-test.true c.eval_node-answer.result c.eval_node-answer.new.rows c.eval_node-answer.auto.rows c.eval_node-answer.ensures _ c.in-Is.is, rc.0, rc.1)
+    let more : length c.loop-left.left.now ≡ 0 → ⊥ = search (rules, tests) in
+    let rc = ready_child c.loop-left.invariant more c.eval_node.result c.eval_node.new.rows c.eval_node.auto.rows c.split_at.result.0.now (c.split_at.ensures.front ∙ ap (λ (k : ℕ). take k c.loop-left.left.now) c.from.ensures) c.eval_node.ensures c.in_ok-new.new c.in_ok-new.was in
+    (ready_own c.loop-left.invariant more c.eval_node.result c.eval_node.new.rows c.eval_node.auto.rows c.split_at.result.0.now (c.split_at.ensures.front ∙ ap (λ (k : ℕ). take k c.loop-left.left.now) c.from.ensures) c.eval_node.ensures c.in_ok-new.new c.in_ok-new.was, rc.0, rc.1)
 
-pub eval_terms-loop-at-preserved : goal.eval_terms-loop-at-preserved
-eval_terms-loop-at-preserved t c =
-    onward c.loop-at.invariant c.loop-at-test.true c.eval_node-answer.result c.eval_node-answer.new.rows c.eval_node-answer.auto.rows c.eval_node-answer.ensures _ c.in-Is.is _ _ _ _ c.take_in-list.auto.rows
-    (c.take_in-list.auto.factor ∙ c.eval_node-answer.auto.factor)
-    (c.take_in-list.auto.scratch ∙ c.eval_node-answer.auto.scratch)
+pub eval_terms-overflow_add-n : goal.eval_terms-overflow_add-n
+eval_terms-overflow_add-n t c =
+    let more : length c.loop-left.left.now ≡ 0 → ⊥ = search (rules, tests) in
+    one_more c.loop-left.invariant more
+
+pub eval_terms-loop-left-smaller : goal.eval_terms-loop-left-smaller
+eval_terms-loop-left-smaller t c =
+    let more : length c.loop-left.left.now ≡ 0 → ⊥ = search (rules, tests) in
+    fewer c.loop-left.left.now c.split_at.result.1.now (ahead c.loop-left.invariant more).some_numbers more (c.split_at.ensures.back ∙ ap (λ (k : ℕ). drop k c.loop-left.left.now) c.from.ensures)
+
+pub eval_terms-loop-left-preserved : goal.eval_terms-loop-left-preserved
+eval_terms-loop-left-preserved t c =
+    let more : length c.loop-left.left.now ≡ 0 → ⊥ = search (rules, tests) in
+    onward c.loop-left.invariant more c.eval_node.result c.eval_node.new.rows c.eval_node.auto.rows c.split_at.result.0.now (c.split_at.ensures.front ∙ ap (λ (k : ℕ). take k c.loop-left.left.now) c.from.ensures) c.eval_node.ensures c.in_ok-new.new c.in_ok-new.was c.split_at.result.1.now (c.split_at.ensures.back ∙ ap (λ (k : ℕ). drop k c.loop-left.left.now) c.from.ensures) _ _ _ _ c.take_in-list.auto.rows
+    (c.take_in-list.auto.factor ∙ c.eval_node.auto.factor)
+    (c.take_in-list.auto.scratch ∙ c.eval_node.auto.scratch)
     c.take_in-list.ensures
 
 pub eval_terms-returns : goal.eval_terms-returns
-eval_terms-returns t c = search (walking, rules)
+eval_terms-returns t c =
+    let none : length c.loop-left.left.now ≡ 0 = search (rules, tests) in
+    ended c.loop-left.invariant c.finished.result none c.finished.ensures

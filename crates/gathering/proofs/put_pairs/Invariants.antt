@@ -5,8 +5,8 @@ use Rattle.declarations.specs.MeaningNamespace.{schemas_in}
 use Rattle.gathering.proofs.Pairs.{Pairing}
 use Rattle.gathering.proofs.put_pairs.Given as goal
 
-abbrev pub invariant-loop-start : goal.invariant-loop-start
-invariant-loop-start l = Pairing (told_reading l.reading) (schemas_in l.sheet) l.scope l.sheet l.own l.at l.end l.used l.initial.stream l.from l.n l.stream
+abbrev pub invariant-loop-name : goal.invariant-loop-name
+invariant-loop-name l = Pairing (told_reading l.schema.reading) (schemas_in l.schema.sheet.now) l.schema.scope.now l.schema.sheet.now l.own l.supers.start l.supers.stop l.used l.initial.stream l.from l.n l.stream
 
-abbrev pub decreases-loop-start : goal.decreases-loop-start
-decreases-loop-start l = l.end - l.from
+abbrev pub decreases-loop-name : goal.decreases-loop-name
+decreases-loop-name l = l.supers.stop - l.from

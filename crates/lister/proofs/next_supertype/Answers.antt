@@ -27,23 +27,23 @@ pub list_of-requires : goal.list_of-requires
 list_of-requires c = search (passing, stood_used, stood_inside, rules)
 
 pub supertype_line_of-requires : goal.supertype_line_of-requires
-supertype_line_of-requires c = search (passing, stood_used, stood_inside, rules)
-
-pub supertype_line_of-requires-in-Is : goal.supertype_line_of-requires-in-Is
-supertype_line_of-requires-in-Is c =
-    let small : c.in-Is.list.count ≤ 65535 = pass_small _ _ _ _ _ c.requires.at_cursor _ _ _ c.list_of.ensures.listed _ c.in-Is.is in
+supertype_line_of-requires c =
+    let small : c.in-Ok.list.count ≤ 65535 = pass_small _ _ _ _ _ c.requires.at_cursor _ _ _ c.list_of.ensures.listed _ c.in-Ok.is in
     (search (passing, rules), search (passing, rules), small, search rules)
 
-pub returns-in-Refused-clause-gives : goal.returns-in-Refused-clause-gives
-returns-in-Refused-clause-gives c = search (passing, stood_used, stood_inside, rules)
+pub supertype_line_of-requires-in-Err : goal.supertype_line_of-requires-in-Err
+supertype_line_of-requires-in-Err c = search (passing, stood_used, stood_inside, rules)
 
-pub returns-in-Refused-clause-falls : goal.returns-in-Refused-clause-falls
-returns-in-Refused-clause-falls c = search (passing, stood_used, stood_inside, rules)
+pub returns-in-Ok-clause-gives : goal.returns-in-Ok-clause-gives
+returns-in-Ok-clause-gives c = search (passing, stood_used, stood_inside, rules)
 
-pub returns-in-Is-clause-gives : goal.returns-in-Is-clause-gives
-returns-in-Is-clause-gives c = search (passing, stood_used, stood_inside, rules)
-
-pub returns-in-Is-clause-falls : goal.returns-in-Is-clause-falls
-returns-in-Is-clause-falls c =
-    let small : c.in-Is.list.count ≤ 65535 = pass_small _ _ _ _ _ c.requires.at_cursor _ _ _ c.list_of.ensures.listed _ c.in-Is.is in
+pub returns-in-Ok-clause-falls : goal.returns-in-Ok-clause-falls
+returns-in-Ok-clause-falls c =
+    let small : c.in-Ok.list.count ≤ 65535 = pass_small _ _ _ _ _ c.requires.at_cursor _ _ _ c.list_of.ensures.listed _ c.in-Ok.is in
     search (pass_in, small, passing, rules)
+
+pub returns-in-Err-clause-gives : goal.returns-in-Err-clause-gives
+returns-in-Err-clause-gives c = search (passing, stood_used, stood_inside, rules)
+
+pub returns-in-Err-clause-falls : goal.returns-in-Err-clause-falls
+returns-in-Err-clause-falls c = search (passing, stood_used, stood_inside, rules)

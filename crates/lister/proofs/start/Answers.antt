@@ -6,10 +6,10 @@ use Rattle.sheet.specs.Claims.{AllBytes}
 use borrow.Author.Rules.{rules}
 use Rattle.lister.proofs.start.Goals as goal
 
-pub returns-in-Refused : goal.returns-in-Refused
-returns-in-Refused c = search (gathered_short, start_refused, rules)
+pub returns-in-Err : goal.returns-in-Err
+returns-in-Err c = search (gathered_short, start_refused, rules)
 
-pub returns-in-Done : goal.returns-in-Done
-returns-in-Done c =
+pub returns-in-Ok : goal.returns-in-Ok
+returns-in-Ok c =
     let bytes : AllBytes c.args.sheet.now = λ i. omega (arith, c.type_inv.sheet i) in
     search (start_done, bytes, rules)

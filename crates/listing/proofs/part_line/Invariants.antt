@@ -1,10 +1,6 @@
 -- `part_line` meets its contract. The invariant: i paths are put behind the number.
-use Prim.Native.Nat.{◌-◌}
 use Rattle.listing.proofs.Listing.{Listing}
 use Rattle.listing.proofs.part_line.Given as goal
 
 abbrev pub invariant-loop-i : goal.invariant-loop-i
-invariant-loop-i l = Listing l.sheet l.number l.row l.count l.initial.at l.i l.at l.initial.out l.out
-
-abbrev pub decreases-loop-i : goal.decreases-loop-i
-decreases-loop-i l = l.count - l.i
+invariant-loop-i l = Listing l.sheet l.number l.part l.initial.at l.i l.at l.initial.out l.out

@@ -1,9 +1,6 @@
-use Rattle.listing.proofs.Typing.{seeking, seek_small}
 use borrow.Author.Rules.{rules}
+use Rattle.listing.proofs.Typing.{seeking, seek_small}
 use Rattle.listing.proofs.type_from.Goals as goal
-
-pub returns-in_default : goal.returns-in_default
-returns-in_default c = search (seeking, seek_small, rules)
 
 pub returns-then-tag-eq32 : goal.returns-then-tag-eq32
 returns-then-tag-eq32 c = search (seeking, seek_small, rules)
@@ -16,3 +13,6 @@ loop-tag-smaller c = search (seeking, seek_small, rules)
 
 pub loop-tag-preserved : goal.loop-tag-preserved
 loop-tag-preserved c = search (seeking, seek_small, rules)
+
+pub returns : goal.returns
+returns c = search (seeking, seek_small, rules)

@@ -1,28 +1,26 @@
 use borrow.Author.Rules.{rules}
 use Rattle.lookup.proofs.Fields.{fields}
+use Rattle.lookup.proofs.Turning.{turning}
 use Rattle.lookup.proofs.Looks.{looking}
 use Rattle.lookup.proofs.look.Goals as goal
 
-pub returns-in_default : goal.returns-in_default
-returns-in_default c = search (looking, fields, rules)
+pub loop-field-init : goal.loop-field-init
+loop-field-init c = search (looking, turning, fields, rules)
 
 pub has_name-requires : goal.has_name-requires
-has_name-requires c = search (looking, fields, rules)
+has_name-requires c = search (looking, turning, fields, rules)
 
 pub returns-then-has_name : goal.returns-then-has_name
-returns-then-has_name c = search (looking, fields, rules)
+returns-then-has_name c = search (looking, turning, fields, rules)
 
-pub loop-n-smaller-then-t-tag : goal.loop-n-smaller-then-t-tag
-loop-n-smaller-then-t-tag c = search (looking, fields, rules)
+pub loop-field-preserved-then-field-tag : goal.loop-field-preserved-then-field-tag
+loop-field-preserved-then-field-tag c = search (looking, turning, fields, rules)
 
-pub loop-n-preserved-then-t-tag : goal.loop-n-preserved-then-t-tag
-loop-n-preserved-then-t-tag c = search (looking, fields, rules)
+pub loop-field-preserved : goal.loop-field-preserved
+loop-field-preserved c = search (looking, turning, fields, rules)
 
-pub loop-n-smaller : goal.loop-n-smaller
-loop-n-smaller c = search (looking, fields, rules)
+pub returns-then-number-past : goal.returns-then-number-past
+returns-then-number-past c = search (looking, turning, fields, rules)
 
-pub loop-n-preserved : goal.loop-n-preserved
-loop-n-preserved c = search (looking, fields, rules)
-
-pub returns : goal.returns
-returns c = search (looking, fields, rules)
+pub returns-in-None : goal.returns-in-None
+returns-in-None c = search (looking, turning, fields, rules)

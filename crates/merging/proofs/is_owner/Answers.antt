@@ -1,18 +1,12 @@
-use Rattle.merging.proofs.Asking.{owning}
-use borrow.Author.Rules.{rules}
+-- `is_owner` meets its contract.
+use Rattle.std.proofs.Common.{rules}
+use borrow.Author.Tests.{tests}
+use Rattle.std.proofs.lemmas.Iterator.Search.{any_from_yields_List}
+use Rattle.merging.proofs.Walking.{walk_yields}
+use Rattle.merging.proofs.Asking.{has, owned_is}
 use Rattle.merging.proofs.is_owner.Goals as goal
 
-pub loop-at-init : goal.loop-at-init
-loop-at-init c = search (owning, rules)
-
-pub returns-then-stream-at : goal.returns-then-stream-at
-returns-then-stream-at c = search (owning, rules)
-
-pub record_end-at-requires : goal.record_end-at-requires
-record_end-at-requires c = search (owning, rules)
-
-pub loop-at-preserved : goal.loop-at-preserved
-loop-at-preserved c = search (owning, rules)
-
 pub returns : goal.returns
-returns c = search (owning, rules)
+returns c =
+    owned_is c.args.stream.now c.args.owner c.any.result
+    (any_from_yields_List (has c.args.owner) _ _ _ c.any.ensures.ran (walk_yields c.of.result c.args.stream.now c.of.ensures) (λ x b q k. search (rules, tests)))

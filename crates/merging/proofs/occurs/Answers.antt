@@ -1,24 +1,12 @@
-use Rattle.merging.proofs.Asking.{searching}
-use borrow.Author.Rules.{rules}
+-- `occurs` meets its contract.
+use Rattle.std.proofs.Common.{rules}
+use borrow.Author.Tests.{tests}
+use Rattle.std.proofs.lemmas.Iterator.Search.{any_from_yields_List}
+use Rattle.merging.proofs.Walking.{walk_yields}
+use Rattle.merging.proofs.Asking.{names_in, occurring_is}
 use Rattle.merging.proofs.occurs.Goals as goal
 
-pub loop-at-init : goal.loop-at-init
-loop-at-init c = search (searching, rules)
-
-pub record_end-next-requires : goal.record_end-next-requires
-record_end-next-requires c = search (searching, rules)
-
-pub slice_bounds-is_in-end : goal.slice_bounds-is_in-end
-slice_bounds-is_in-end c = search (searching, rules)
-
-pub returns-then-is_in : goal.returns-then-is_in
-returns-then-is_in c = search (searching, rules)
-
-pub loop-at-preserved-then-stream-at : goal.loop-at-preserved-then-stream-at
-loop-at-preserved-then-stream-at c = search (searching, rules)
-
-pub loop-at-preserved : goal.loop-at-preserved
-loop-at-preserved c = search (searching, rules)
-
 pub returns : goal.returns
-returns c = search (searching, rules)
+returns c =
+    occurring_is c.args.stream.now c.args.owner c.args.index c.any.result
+    (any_from_yields_List (names_in c.args.owner c.args.index) _ _ _ c.any.ensures.ran (walk_yields c.of.result c.args.stream.now c.of.ensures) (λ x b q k. search (rules, tests)))

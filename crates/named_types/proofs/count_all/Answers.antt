@@ -3,5 +3,8 @@ use borrow.Author.Rules.{rules}
 use Rattle.named_types.proofs.Few.{counting}
 use Rattle.named_types.proofs.count_all.Goals as goal
 
-pub returns-in_default : goal.returns-in_default
-returns-in_default c = search (counting, rules)
+pub returns-in-Ok : goal.returns-in-Ok
+returns-in-Ok c = search (counting, rules)
+
+pub returns-in-Err : goal.returns-in-Err
+returns-in-Err c = search (counting, rules)

@@ -6,17 +6,11 @@ use Rattle.named_types.proofs.is_enumeration.Goals as goal
 pub returns-in_default : goal.returns-in_default
 returns-in_default c = search (enumerating, rules)
 
-pub returns-then-tag-ne32 : goal.returns-then-tag-ne32
-returns-then-tag-ne32 c = search (enumerating, rules)
-
-pub returns-in-Simple : goal.returns-in-Simple
-returns-in-Simple c = search (enumerating, rules)
-
 pub returns-in-Enumeration : goal.returns-in-Enumeration
 returns-in-Enumeration c = search (enumerating, rules)
 
-pub returns-in-Named : goal.returns-in-Named
-returns-in-Named c = search (enumerating, rules)
+pub returns-in_default-matches : goal.returns-in_default-matches
+returns-in_default-matches c = search (enumerating, rules)
 
-pub returns-in-Other : goal.returns-in-Other
-returns-in-Other c = search (enumerating, rules)
+pub returns-else-tag-eq32 : goal.returns-else-tag-eq32
+returns-else-tag-eq32 c = search (enumerating, rules)

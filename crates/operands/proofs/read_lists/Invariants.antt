@@ -1,12 +1,7 @@
--- `read_lists` meets its contract. The invariant: k rows are good, and what is left from `at` and from c decides.
-use Prim.Native.Nat.{◌-◌}
-use lib.ListN.{length}
+-- The invariant: k rows are good, and what is left of the rows and of the counts decides.
 use Rattle.operands.specs.MirrorOperands.{judged}
 use Rattle.operands.proofs.Judging.{Judging}
 use Rattle.operands.proofs.read_lists.Given as goal
 
-abbrev pub invariant-loop-c : goal.invariant-loop-c
-invariant-loop-c l = Judging l.counts l.rows l.k l.at l.c (judged l.counts l.rows)
-
-abbrev pub decreases-loop-c : goal.decreases-loop-c
-decreases-loop-c l = length l.counts - l.c
+abbrev pub invariant-loop-count : goal.invariant-loop-count
+invariant-loop-count l = Judging l.counts l.rows l.k l.count-index (judged l.counts l.rows)

@@ -1,16 +1,9 @@
--- `read_path` reads a path query.
-use borrow.Author.Rules.{rules}
+-- `read_path` takes the last step for the item, where no fourth one stands.
+use Rattle.std.proofs.Common.{◌≡◌, rules, arith, Some}
 use Rattle.query.proofs.Routes.{routing}
 use Rattle.query.proofs.read_path.Goals as goal
 
-pub returns-then-at-query : goal.returns-then-at-query
-returns-then-at-query c = search (routing, rules)
-
-pub returns-in-Found : goal.returns-in-Found
-returns-in-Found c = search (routing, rules)
-
-pub returns-in_default-popped : goal.returns-in_default-popped
-returns-in_default-popped c = search (routing, rules)
-
 pub returns : goal.returns
-returns c = search (routing, rules)
+returns c =
+    let w : c.popped.result ≡ Some c.in_ok-outer.outer = (let v = c.ok_or.ensures.value in let u = c.in_ok-outer.was in grind arith) in
+    search (w, routing, rules)

@@ -8,8 +8,8 @@ loop-low-init c = search (placing, rules)
 pub loop-low-preserved-in-Less : goal.loop-low-preserved-in-Less
 loop-low-preserved-in-Less c = search (placing, rules)
 
-pub returns-in-Same : goal.returns-in-Same
-returns-in-Same c = search (placing, rules)
+pub returns-in-Equal : goal.returns-in-Equal
+returns-in-Equal c = search (placing, rules)
 
 pub loop-low-preserved : goal.loop-low-preserved
 loop-low-preserved c = search (placing, rules)

@@ -1,7 +1,7 @@
 -- `owns`: the number of the path, among the owners.
+use borrow.Author.Rules.{rules}
 use Rattle.supertypes.proofs.Standing.{stood}
 use Rattle.supertypes.proofs.Finding.{deciding}
-use borrow.Author.Rules.{rules}
 use Rattle.supertypes.proofs.owns.Goals as goal
 
 pub returns-in_default : goal.returns-in_default

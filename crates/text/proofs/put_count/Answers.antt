@@ -6,8 +6,8 @@ use Rattle.text.proofs.put_count.Goals as goal
 pub put_decimal-requires : goal.put_decimal-requires
 put_decimal-requires c = search (lines, rules)
 
-pub returns-in-Is : goal.returns-in-Is
-returns-in-Is c = search (lines, rules)
+pub returns-in-Ok : goal.returns-in-Ok
+returns-in-Ok c = search (lines, rules)
 
-pub returns-in-Refused : goal.returns-in-Refused
-returns-in-Refused c = search (lines, rules)
+pub returns-in-Err : goal.returns-in-Err
+returns-in-Err c = search (lines, rules)

@@ -6,8 +6,8 @@ use Rattle.type_ref.proofs.named.Goals as goal
 pub returns-in_default : goal.returns-in_default
 returns-in_default c = search (naming, rules)
 
-pub returns-in-Ends : goal.returns-in-Ends
-returns-in-Ends c = search (naming, rules)
+pub returns-in-Ok : goal.returns-in-Ok
+returns-in-Ok c = search (naming, rules)
 
-pub returns-in-Refused : goal.returns-in-Refused
-returns-in-Refused c = search (naming, rules)
+pub returns-in-Err : goal.returns-in-Err
+returns-in-Err c = search (naming, rules)

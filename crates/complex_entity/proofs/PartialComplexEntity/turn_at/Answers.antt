@@ -1,22 +1,21 @@
--- Each way through a turn is a clause of its definition.
 use borrow.Author.Rules.{rules}
 use Rattle.complex_entity.proofs.Together.{turning}
 use Rattle.complex_entity.proofs.PartialComplexEntity.turn_at.Goals as goal
 
-pub returns-then-j-m : goal.returns-then-j-m
-returns-then-j-m c = search (turning, rules)
+pub returns-in-None-None : goal.returns-in-None-None
+returns-in-None-None c = search (turning, rules)
 
-pub returns-then-i-n : goal.returns-then-i-n
-returns-then-i-n c = search (turning, rules)
+pub returns-in-None-Some : goal.returns-in-None-Some
+returns-in-None-Some c = search (turning, rules)
 
-pub returns-then-j-m-2 : goal.returns-then-j-m-2
-returns-then-j-m-2 c = search (turning, rules)
+pub returns-in-Some-None : goal.returns-in-Some-None
+returns-in-Some-None c = search (turning, rules)
 
-pub returns-then-x-y : goal.returns-then-x-y
-returns-then-x-y c = search (turning, rules)
+pub returns-in-Less : goal.returns-in-Less
+returns-in-Less c = search (turning, rules)
 
-pub returns-then-y-x : goal.returns-then-y-x
-returns-then-y-x c = search (turning, rules)
+pub returns-in-Equal : goal.returns-in-Equal
+returns-in-Equal c = search (turning, rules)
 
-pub returns : goal.returns
-returns c = search (turning, rules)
+pub returns-in-Greater : goal.returns-in-Greater
+returns-in-Greater c = search (turning, rules)

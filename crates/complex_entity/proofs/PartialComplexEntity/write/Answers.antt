@@ -1,12 +1,8 @@
 use borrow.Author.Rules.{rules}
-use Rattle.complex_entity.proofs.Rows.{writing}
+use Rattle.complex_entity.specs.MirrorParts.{names_of}
+use Rattle.complex_entity.proofs.Names.{names_few}
+use Rattle.complex_entity.proofs.Rows.{row_written}
 use Rattle.complex_entity.proofs.PartialComplexEntity.write.Goals as goal
 
-pub loop-i-init : goal.loop-i-init
-loop-i-init c = search (writing, rules)
-
-pub loop-i-preserved-then-i-n : goal.loop-i-preserved-then-i-n
-loop-i-preserved-then-i-n c = search (writing, rules)
-
-pub loop-i-preserved : goal.loop-i-preserved
-loop-i-preserved c = search (writing, rules)
+pub returns : goal.returns
+returns c = row_written c.args.rows.now (names_of c.args.self) _ c.fill.new.self _ _ (search rules) (search rules) (search rules) (search (names_few, rules)) (search rules)

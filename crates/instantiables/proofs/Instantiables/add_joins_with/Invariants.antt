@@ -1,4 +1,4 @@
--- `add_joins_with` meets its contract. The invariant: the joins of the rows that are left, added to the list, make the whole answer.
+-- The invariant: the joins of the rows that are left, added to the list, make the whole answer.
 use Rattle.rows.specs.MirrorRows.{parts_at}
 use Rattle.complex_entity.specs.MirrorParts.{part_at}
 use Rattle.complex_entity.specs.MeaningLists.{add, joins, held}
@@ -7,8 +7,5 @@ use mathlib.Core.List.{[], ◌∷◌}
 use Rattle.instantiables.proofs.Feeds.{Joining}
 use Rattle.instantiables.proofs.Instantiables.add_joins_with.Given as goal
 
-abbrev pub invariant-loop-left : goal.invariant-loop-left
-invariant-loop-left l = Joining (part_at (drop l.from l.lefts)) l.others l.initial.rows l.rows l.list.count l.at l.left (held (add (parts_at l.initial.list.count l.initial.rows) (joins (part_at (drop l.from l.lefts) ∷ []) (parts_at l.initial.left l.others))))
-
-abbrev pub decreases-loop-left : goal.decreases-loop-left
-decreases-loop-left l = l.left
+abbrev pub invariant-loop-i : goal.invariant-loop-i
+invariant-loop-i l = Joining (part_at (drop l.from l.lefts)) l.others l.initial.rows l.rows l.list.count l.i l.i-end (held (add (parts_at l.initial.list.count l.initial.rows) (joins (part_at (drop l.from l.lefts) ∷ []) (parts_at l.i-end l.others))))

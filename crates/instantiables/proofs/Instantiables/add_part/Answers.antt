@@ -21,8 +21,8 @@ overflow_sub-self c = search (inserting, rules)
 pub raise-requires : goal.raise-requires
 raise-requires c = search (inserting, rules)
 
-pub put-requires : goal.put-requires
-put-requires c = search (inserting, rules)
+pub write-requires : goal.write-requires
+write-requires c = search (inserting, rules)
 
 pub returns : goal.returns
 returns c = search (inserting, rules)

@@ -3,8 +3,8 @@ use borrow.Author.Rules.{rules}
 use Rattle.instantiables.proofs.Factors.{twofold}
 use Rattle.instantiables.proofs.Instantiables.with_joins.Goals as goal
 
-pub add-r-requires : goal.add-r-requires
-add-r-requires c = search (twofold, rules)
+pub add-answer-requires : goal.add-answer-requires
+add-answer-requires c = search (twofold, rules)
 
 pub returns-in_default : goal.returns-in_default
 returns-in_default c = search (twofold, rules)

@@ -1,4 +1,3 @@
--- The words before the state are written, then the state.
 use borrow.Author.Rules.{rules}
 use Rattle.lines.proofs.Writes.{writes}
 use Rattle.lines.proofs.lent.state.Goals as goal
@@ -6,8 +5,8 @@ use Rattle.lines.proofs.lent.state.Goals as goal
 pub returns-then-changed-eq0 : goal.returns-then-changed-eq0
 returns-then-changed-eq0 c = search (writes, rules)
 
-pub returns-then-is_zero : goal.returns-then-is_zero
-returns-then-is_zero c = search (writes, rules)
+pub returns-then-all : goal.returns-then-all
+returns-then-all c = search (writes, rules)
 
 pub returns : goal.returns
 returns c = search (writes, rules)

@@ -1,11 +1,6 @@
--- The invariant: i bytes are written.
-use lib.ListN.{length}
-use Prim.Native.Nat.{◌≤◌, ◌-◌}
+-- The invariant: the bytes so far are written.
 use Rattle.lines.specs.Places.{Written}
 use Rattle.lines.proofs.writing.text.Given as goal
 
-abbrev pub invariant-loop-i : goal.invariant-loop-i
-invariant-loop-i l = (l.i ≤ length l.bytes) × Written l.at l.end l.initial.out l.out
-
-abbrev pub decreases-loop-i : goal.decreases-loop-i
-decreases-loop-i l = length l.bytes - l.i
+abbrev pub invariant-loop-byte : goal.invariant-loop-byte
+invariant-loop-byte l = Written l.at l.end l.initial.out l.out

@@ -5,10 +5,10 @@ use Rattle.lister.specs.MirrorRest.{AtCursor, left}
 use Rattle.replay.proofs.Listed.{Making}
 use Rattle.replay.proofs.listings.put_lines.Given as goal
 
-abbrev pub invariant-loop-reading : goal.invariant-loop-reading
-invariant-loop-reading g l =
+abbrev pub invariant-loop-line : goal.invariant-loop-line
+invariant-loop-line g l =
     AtCursor (told_reading l.reading) l.sheet l.names l.workspace l.cursor × Making (told_reading l.reading) l.sheet l.names l.fn.workspace l.fn.first l.some l.workspace l.cursor
     × (length l.text ≡ 800)
 
-abbrev pub decreases-loop-reading : goal.decreases-loop-reading
-decreases-loop-reading g l = left l.cursor
+abbrev pub decreases-loop-line : goal.decreases-loop-line
+decreases-loop-line g l = left l.cursor

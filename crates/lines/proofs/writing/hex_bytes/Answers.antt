@@ -1,6 +1,0 @@
-use borrow.Author.Rules.{rules}
-use Rattle.lines.proofs.Writes.{writes}
-use Rattle.lines.proofs.writing.hex_bytes.Goals as goal
-
-pub loop-i-preserved : goal.loop-i-preserved
-loop-i-preserved c = search (writes, rules)

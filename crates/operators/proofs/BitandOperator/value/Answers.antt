@@ -1,0 +1,6 @@
+use borrow.Author.Rules.{rules}
+use Rattle.operators.proofs.Valuing.{valuing}
+use Rattle.operators.proofs.BitandOperator.value.Goals as goal
+
+pub returns : goal.returns
+returns c = search (valuing, rules)
