@@ -77,7 +77,7 @@ fn answer_last(output: &impl Print, line: &[u8]) -> io::Result<()> {
     Ok(())
 }
 
-// A proved loop has to end, and nothing says that the input does: the turns are counted down.
+// A proved loop has to end, and nothing says that the input does: the turns are bounded.
 fn main(rt: HostRuntime) -> io::Result<()> {
     let mut input = rt.stdin();
     let mut text = [0u8; LONGEST];
