@@ -28,7 +28,7 @@ use Rattle.scope.specs.declared.ScopeType as code
 use Rattle.lookup.specs.MirrorLookup.{its_name, itself, look_in}
 use Rattle.lookup.proofs.Fields.{none_left, one_here, other_here, field_start, field_order, field_in, field_on, each_length, nests_type, nests_entity}
 use Rattle.declarations.specs.MeaningNamespace.{schemas_in, Declaration, scope_in, declared_by, numbered, Entry, entries_from, all_of, declarations, first, or, last, declaration_for}
-use Rattle.declarations.specs.MirrorNamespace.{schema_scope, path_to, sought_of, types_in, size_in, type_in, entity_in, or_sought, in_schema, in_kind, numbers_at, NumbersIn, entry_of, LastIs, namesakes, Alone, LastSchemaOf}
+use Rattle.declarations.specs.MirrorNamespace.{schema_scope, path_to, sought_of, types_in, size_in, type_in, entity_in, or_sought, in_schema, in_kind, numbers_at, NumbersIn, entry_of, LastIs, SmallNumbers, namesakes, Alone, LastSchemaOf}
 use Rattle.declarations.specs.declared.Numbers.{Numbers}
 use Rattle.declarations.specs.declared.LastSchema.{LastSchema}
 use Rattle.declarations.proofs.Picking.{or_none, or_assoc, first_append}
@@ -201,6 +201,7 @@ pub record Seeking (rd : Reading) (s sc : List ℕ) (e n from : ℕ) (best : pre
   pub small : n ≤ from
   pub entry : Option Entry
   pub holds : LastIs s best entry
+  pub few : SmallNumbers best
   pub rest : or (last (so_named rd sc) (entries_from n (schemas_of (tree_at s from e)))) entry ≡ last (so_named rd sc) (entries_from 0 (schemas_in s))
   -- how many had the name
   pub tally : ℕ
@@ -211,7 +212,7 @@ pub record Seeking (rd : Reading) (s sc : List ℕ) (e n from : ℕ) (best : pre
 pub seek_start : (rd : Reading) (s sc : List ℕ) → length s ≤ 65535 → (b : ℕ) → b ≡ 0 → Seeking rd s sc (length s) 0 b None
 unfolding schemas_in tree_of
 seek_start rd s sc h b p =
-    rw p (record { within = omega arith; whole = refl; short = h; small = omega arith; entry = none; holds = refl; rest = or_none (last (so_named rd sc) (entries_from 0 (schemas_of (tree_at s 0 (length s))))); tally = 0; fresh = refl; only = tt; left = omega arith })
+    rw p (record { within = omega arith; whole = refl; short = h; small = omega arith; entry = none; holds = refl; few = tt; rest = or_none (last (so_named rd sc) (entries_from 0 (schemas_of (tree_at s 0 (length s))))); tally = 0; fresh = refl; only = tt; left = omega arith })
 
 -- the one that is met is alone, if none was met before
 one_on : (k : ℕ) (best : prelude.Option LastSchema) → Fresh k best → (b : Bool) → is_some best ≡ not b → b ≡ eqb (suc k) 1
@@ -223,6 +224,9 @@ one_on k (Some l) f false e = sym (ne_eqb (suc k) 1 (λ z. f (omega (arith, z)))
 module _ (rd : Reading) (s sc : List ℕ) (e n from : ℕ) (best : prelude.Option LastSchema) (f : Seeking rd s sc e n from best) where
   pub seek_end : e ≤ length s
   seek_end = omega (arith, f.whole)
+
+  pub seek_small : SmallNumbers best
+  seek_small = f.few
 
   module _ (h : prelude.Option Field) (y : h ≡ field_at s from e) where
     pub seek_none : h ≡ None → LastSchemaOf rd s sc best
@@ -251,6 +255,7 @@ module _ (rd : Reading) (s sc : List ℕ) (e n from : ℕ) (best : prelude.Optio
             small = (let i = field_on s from e h y fd q in omega (arith, f.small));
             entry = f.entry;
             holds = f.holds;
+            few = f.few;
             rest = sym (ap (λ (l : List Schema). or (last (so_named rd sc) (entries_from n l)) f.entry) (no_schema_here s from e h y fd q d)) ∙ f.rest;
             tally = f.tally;
             fresh = f.fresh;
@@ -290,11 +295,15 @@ module _ (rd : Reading) (s sc : List ℕ) (e n from : ℕ) (best : prelude.Optio
 
           pub seek_miss : z ≡ false → (b : ℕ) → b ≡ fd.stop → Seeking rd s sc e hs.past b best
           unfolding or
-          seek_miss o b p = rw p (record { within = field_in s from e h y fd q; whole = f.whole; short = f.short; small = few_on; entry = f.entry; holds = f.holds; rest = turn none (rw (same ∙ o) refl); tally = f.tally; fresh = f.fresh; only = f.only; left = rw o at counted })
+          seek_miss o b p = rw p (record { within = field_in s from e h y fd q; whole = f.whole; short = f.short; small = few_on; entry = f.entry; holds = f.holds; few = f.few; rest = turn none (rw (same ∙ o) refl); tally = f.tally; fresh = f.fresh; only = f.only; left = rw o at counted })
 
           last_here : (alone : Bool) → LastIs s (Some (record { numbers = hs; alone = alone })) (some (entry_of n x))
           unfolding numbers_at
           last_here alone = subst (λ (i : Numbers). LastIs s (Some (record { numbers = i; alone = alone })) (some (entry_of n x))) (sym hh) (from, refl, numbers_in s fd.start fd.stop n (field_order s from e h y fd q) seek_there)
+
+          few_here : hs.first + (hs.stop - hs.start) ≤ 65535
+          unfolding numbers_at
+          few_here = subst (λ (i : Numbers). i.first + (i.stop - i.start) ≤ 65535) (sym hh) seek_room
 
           pub seek_hit : z ≡ true → (alone : Bool) → is_some best ≡ not alone → (b : ℕ) → b ≡ fd.stop → Seeking rd s sc e hs.past b (Some (record { numbers = hs; alone = alone }))
           unfolding or
@@ -306,6 +315,7 @@ module _ (rd : Reading) (s sc : List ℕ) (e n from : ℕ) (best : prelude.Optio
                 small = few_on;
                 entry = some (entry_of n x);
                 holds = last_here alone;
+                few = few_here;
                 rest = turn (some (entry_of n x)) (rw (same ∙ o) refl);
                 tally = suc f.tally;
                 fresh = (λ i. omega (arith, i));
@@ -313,7 +323,7 @@ module _ (rd : Reading) (s sc : List ℕ) (e n from : ℕ) (best : prelude.Optio
                 left = (let v : f.tally + suc (namesakes rd sc (schemas_of (tree_at s fd.stop e))) ≡ namesakes rd sc (schemas_in s) = rw o at counted in omega arith);
               })
 
-pub ruleset seeking = (seek_start, seek_end, seek_none, seek_there, seek_room, seek_skip, seek_miss, seek_hit)
+pub ruleset seeking = (seek_start, seek_end, seek_small, seek_none, seek_there, seek_room, seek_skip, seek_miss, seek_hit)
 
 -- ---- the first declaration with a path
 

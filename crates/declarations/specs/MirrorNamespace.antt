@@ -1,5 +1,5 @@
 -- What the walks over schemas answer: names and kinds as the code has them, and the numbers found.
-use Rattle.std.specs.Prelude.{ℕ, suc, ◌+◌, ◌≤◌, ◌≡◌, List, [], ◌∷◌, Some, None, Result, Ok, Err, cond, length, eqb}
+use Rattle.std.specs.Prelude.{ℕ, suc, ◌+◌, ◌-◌, ◌≤◌, ◌≡◌, List, [], ◌∷◌, Some, None, Result, Ok, Err, cond, length, eqb}
 use Rattle.std.specs.Prelude as prelude
 use Rattle.std.proofs.Math.Option.{Option, none, some}
 use Rattle.grammar.specs.MeaningReading.{Reading}
@@ -83,6 +83,11 @@ entry_of n x = record { scope = scope_in x; items = numbered x n (declared_by x)
 abbrev pub LastIs : List ℕ → prelude.Option LastSchema → Option Entry → Type 0
 LastIs s None o = o ≡ none
 LastIs s (Some l) o = (p : ℕ) × (o ≡ some (entry_of l.numbers.first (schema_of p (tree_at s l.numbers.start l.numbers.stop)))) × NumbersIn s l.numbers
+
+-- its numbers are small: so many more as its fields have bytes are u16s still
+abbrev pub SmallNumbers : prelude.Option LastSchema → Type 0
+SmallNumbers None = Unit {0}
+SmallNumbers (Some l) = l.numbers.first + (l.numbers.stop - l.numbers.start) ≤ 65535
 
 -- how many schemas have the name
 unfoldable pub namesakes : Reading → List ℕ → List Schema → ℕ

@@ -8,7 +8,7 @@ ghost use Rattle.sheet.specs.Told.{told_reading};
 ghost use Rattle.schemas.specs.MeaningTree.{tree_at};
 ghost use Rattle.scope.specs.Told.{told_kind};
 ghost use Rattle.declarations.specs.MeaningNamespace.{schemas_in, declaration_for};
-ghost use Rattle.declarations.specs.MirrorNamespace.{path_to, sought_of, numbers_at, NumbersIn, in_schema, in_kind, LastSchemaOf};
+ghost use Rattle.declarations.specs.MirrorNamespace.{path_to, sought_of, numbers_at, NumbersIn, in_schema, in_kind, LastSchemaOf, SmallNumbers};
 
 use lookup::{Walk, has_name, look};
 use scope::ScopeType;
@@ -102,7 +102,7 @@ pub fn in_schema(reading: Reading, s: &[u8], numbers: Numbers, name: &[u8]) -> R
 // The last schema of the name, and whether it is the only one.
 pub fn last_schema(reading: Reading, sheet: &[u8], scope: &[u8]) -> Option<LastSchema>
     requires { length sheet.now ≤ 65535 }
-    ensures { LastSchemaOf (told_reading reading) sheet.now scope.now result }
+    ensures { LastSchemaOf (told_reading reading) sheet.now scope.now result × SmallNumbers result }
 {
     let mut last: Option<LastSchema> = None;
     let mut first = 0;
