@@ -19,7 +19,7 @@ pub fn combine(rules: &[u16], pairs: &[u16], owner: u16, nodes: &mut [u16]) -> O
     requires pairs_in_bounds { (3 + length rules.now + length pairs.now ≤ length nodes.old) × (3 + length rules.now + length pairs.now < 2 ^ 16) }
     ensures { (cs : List (Combined ℕ)) (xs : List (Pair ℕ)) → rules.now ≡ stream_of cs → pairs.now ≡ pairs_of xs → Holds (combined_of eqb owner cs xs) nodes.new result }
 {
-    let body = put_node(nodes, 0, Kind::Andor, 0, 0);
+    let body = put_node(nodes, 0, u16::from(Kind::Andor), 0, 0);
     let middle = put_rules(rules, owner, nodes, body);
     let stop = put_fresh(rules, pairs, owner, nodes, middle);
     // how many numbers stand under the header is known now

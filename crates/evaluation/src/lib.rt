@@ -5,6 +5,7 @@
 
 ghost use Rattle.std.specs.Prelude.{◌≡◌, ℕ, ◌+◌, ◌*◌, ◌≤◌, length};
 ghost use Rattle.expression.specs.MeaningExpression.{Expr, Terms, eval};
+ghost use Rattle.expression.specs.MirrorKinds.{kind_of};
 ghost use Rattle.expression.specs.MirrorNodes.{flat, flats, Node, Nodes};
 ghost use Rattle.instantiables.specs.Told.{told_listed};
 ghost use Rattle.terms.specs.MirrorValues.{Valuing, node_of};
@@ -33,15 +34,15 @@ pub fn eval_node(
 {
     match Kind::from(nodes[0]) {
         Kind::Reference => Ok(Instantiables::single(rows, nodes[1])),
-        kind => eval_terms(kind, &nodes[NODE..], rows, factor, scratch, depth - 1),
+        _ => eval_terms(nodes[0], &nodes[NODE..], rows, factor, scratch, depth - 1),
     }
 }
 
-// The list of a node of this kind whose terms stand in `terms`. Its own list stands at the front of `rows`, the terms' lists are valued above it.
+// The list of a node of the kind that this number says, whose terms stand in `terms`. Its own list stands at the front of `rows`, the terms' lists are valued above it.
 // A limit that is passed does not end the walk, since a refusal of a later term comes first.
 #[cycle(eval_node_eval_terms)]
 pub fn eval_terms(
-    kind: Kind,
+    kind: u16,
     terms: &[u16],
     rows: &mut [u16],
     factor: &mut [u16],
@@ -50,7 +51,7 @@ pub fn eval_terms(
 ) -> Result<Instantiables, Refusal>
     requires nodes { Nodes terms.now depth }
     requires depth_in_bounds { (832 * (depth + 1) ≤ length rows.old) × (1664 ≤ length factor.old) × (1664 ≤ length scratch.old) }
-    ensures { (t : Terms ℕ) → terms.now ≡ flats t → Valuing (node_of kind t) rows.new (told_listed result) }
+    ensures { (t : Terms ℕ) → terms.now ≡ flats t → Valuing (node_of (kind_of kind) t) rows.new (told_listed result) }
 {
     let mut list = Ok(Instantiables::empty());
     let mut n = 0;

@@ -55,12 +55,12 @@ impl From<u16> for Kind {
 // The numbers of a node: its kind, its value, and how many numbers it and all below it take.
 pub const NODE: usize = 3;
 
-// A node goes behind those that stand at the front; how many numbers stand there then.
-pub fn put_node(nodes: &mut [u16], used: usize, kind: Kind, value: u16, span: u16) -> usize
+// A node goes behind those that stand at the front; how many numbers stand there then. Its kind is a number, as it stands there: any number goes.
+pub fn put_node(nodes: &mut [u16], used: usize, kind: u16, value: u16, span: u16) -> usize
     requires { used + 3 ≤ length nodes.old }
-    ensures { (result ≡ used + 3) × (nodes.new ≡ take used nodes.old ++ ((number_of_kind kind ∷ value ∷ span ∷ []) ++ drop (used + 3) nodes.old)) }
+    ensures { (result ≡ used + 3) × (nodes.new ≡ take used nodes.old ++ ((kind ∷ value ∷ span ∷ []) ++ drop (used + 3) nodes.old)) }
 {
-    nodes[used] = u16::from(kind);
+    nodes[used] = kind;
     nodes[used + 1] = value;
     nodes[used + 2] = span;
     used + NODE

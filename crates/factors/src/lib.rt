@@ -61,7 +61,7 @@ pub fn put_fresh(rules: &[u16], pairs: &[u16], owner: u16, nodes: &mut [u16], us
     for pair in Walk::of(pairs) {
         let sub = pair.nodes[1];
         if pair.owner == owner && !occurs(rules, owner, sub) {
-            stop = put_node(nodes, stop, Kind::Reference, sub, NODE as u16);
+            stop = put_node(nodes, stop, u16::from(Kind::Reference), sub, NODE as u16);
         }
     }
     stop

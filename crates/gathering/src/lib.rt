@@ -131,7 +131,8 @@ fn put_pair(stream: &mut [u16], used: usize, owner: u16, index: u16) -> usize
     ensures { (result ≡ used + 4) × (take (used + 4) stream.new ≡ take used stream.old ++ (owner ∷ 0 ∷ index ∷ 3 ∷ [])) }
 {
     stream[used] = owner;
-    put_node(stream, used + 1, Kind::Reference, index, NODE as u16)
+    let kind = u16::from(Kind::Reference);
+    put_node(stream, used + 1, kind, index, NODE as u16)
 }
 
 // A record for each of the names in a field's value, in order.

@@ -36,7 +36,8 @@ fn read_reference(field: &[u8], nodes: &mut [u16], used: usize) -> Option<usize>
     if *high != 0 {
         return None;
     }
-    Some(put_node(nodes, used, Kind::Reference, u16::from(*low), NODE as u16))
+    let kind = u16::from(Kind::Reference);
+    Some(put_node(nodes, used, kind, u16::from(*low), NODE as u16))
 }
 
 // The expression that a field is goes behind the numbers that are used; how many stand then, or that the field is none. The depth falls at each call, and a level takes two.
@@ -59,9 +60,10 @@ pub fn read_node(field: &[u8], nodes: &mut [u16], used: usize, depth: usize) -> 
     if tag < TAG || LAST_TAG < tag {
         return None;
     }
-    match Kind::from(u16::from(tag - TAG)) {
+    let kind = u16::from(tag - TAG);
+    match Kind::from(kind) {
         Kind::Reference => read_reference(field, nodes, used),
-        kind => {
+        _ => {
             let body = put_node(nodes, used, kind, 0, 0);
             let next = read_terms(&field[HEADER..], nodes, body, depth - 1)?;
             // how many numbers the node takes is known now

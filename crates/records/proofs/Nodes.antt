@@ -21,9 +21,7 @@ use Rattle.schemas.specs.MeaningSchemas.{Schema, terms_of}
 use Rattle.expression.specs.MeaningExpression.{Expr, Terms}
 use Rattle.expression.specs.MeaningExpression.Expr.{reference, andor, «and», oneof}
 use Rattle.expression.specs.MeaningExpression.Terms.{end, ◌then◌}
-use Rattle.expression.specs.MirrorKinds.{kind_of, number_of_kind}
 use Rattle.expression.specs.MirrorNodes.{flat, flats}
-use Rattle.expression.specs.declared.Kind.{Kind}
 use Rattle.expression.proofs.Spans.{patched}
 use Rattle.lookup.specs.declared.Span.{Span}
 use Rattle.declarations.specs.MirrorNamespace.{schema_scope}
@@ -88,13 +86,6 @@ module _ (rd : Reading) (xs : List Schema) (w s : List ℕ) (t a b : ℕ) where
       by second q u = each_of «and» 2 (λ u. refl) (resolved_terms (number_meant rd xs) (schema_scope w) u)
       by third q u = each_of oneof 3 (λ u. refl) (resolved_terms (number_meant rd xs) (schema_scope w) u)
 
--- the kind of a tag's number says that number
-kind_back : {t : ℕ} → Tag 0x50 t → number_of_kind (kind_of (t - 0x50)) ≡ t - 0x50
-kind_back zeroth = refl
-kind_back first = refl
-kind_back second = refl
-kind_back third = refl
-
 -- ---- room and depth
 
 module _ (e : Expr Name) (used depth : ℕ) (w : List ℕ) (D : Deep (size e) (2 * level e) used depth w) where
@@ -130,11 +121,11 @@ module _ (rd : Reading) (xs : List Schema) (w s : List ℕ) (t a b used depth : 
     pub node_lost : (why : Refusal) → r ≡ Err why → (k : Result ℕ Refusal) → k ≡ Err why → Appends (expr_numbers rd xs w (expr_in s t a b)) (told k) used w₀ w₀
     node_lost why e k y = rw y (appends_not (number_of why.reason) why.place used w₀ w₀ (ref_is rd xs w s t a b z ∙ rw (← told_here, e) refl))
 
-    pub node_found : (k : ℕ) → r ≡ Ok k → (n : ℕ) (w₁ : List ℕ) → n ≡ used + 3 → w₁ ≡ take used w₀ ++ ((0 ∷ k ∷ 3 ∷ []) ++ drop (used + 3) w₀)
+    pub node_found : (k : ℕ) → r ≡ Ok k → (n : ℕ) (w₁ : List ℕ) → n ≡ used + 3 → (i : ℕ) → i ≡ 0 → w₁ ≡ take used w₀ ++ ((i ∷ k ∷ 3 ∷ []) ++ drop (used + 3) w₀)
         → Appends (expr_numbers rd xs w (expr_in s t a b)) (told (Ok n)) used w₀ w₁
-    node_found k e n w₁ m p =
+    node_found k e n w₁ m i j p =
         let h : used + 3 ≤ length w₀ = node_room (expr_in s t a b) used depth w₀ D in
-        appends (0 ∷ k ∷ 3 ∷ []) (ref_is rd xs w s t a b z ∙ rw (← told_here, e) refl) m (rw m (put_front used w₀ w₁ 0 k 3 h p))
+        appends (0 ∷ k ∷ 3 ∷ []) (ref_is rd xs w s t a b z ∙ rw (← told_here, e) refl) m (rw m (put_front used w₀ w₁ 0 k 3 h (rw j at p)))
 
   module _ (z : t ≡ 0x50 → ⊥) where
     module _ (l : 0x50 ≤ t) (h : t ≤ 0x53) (r : Result ℕ Refusal) (body : ℕ) (w₁ w₂ : List ℕ) (A : Appends (terms_numbers rd xs w (terms_of (tree_at s a b))) (told r) body w₁ w₂) where
@@ -157,17 +148,14 @@ module _ (rd : Reading) (xs : List Schema) (w s : List ℕ) (t a b used depth : 
         pub inner_there : length w₂ ≡ length w₁ → length w₁ ≡ length w₀ → used + 2 < length w₂
         inner_there k j = omega (arith, node_room (expr_in s t a b) used depth w₀ D)
 
-        made : w₁ ≡ take used w₀ ++ (((t - 0x50) ∷ 0 ∷ 0 ∷ []) ++ drop (used + 3) w₀) → Appends (expr_numbers rd xs w (expr_in s t a b)) (told (Ok n)) used w₀ (set w₂ (used + 2) (n - used))
-        made p =
+        pub inner_made : (k : ℕ) → k ≡ t - 0x50 → w₁ ≡ take used w₀ ++ ((k ∷ 0 ∷ 0 ∷ []) ++ drop (used + 3) w₀) → Appends (expr_numbers rd xs w (expr_in s t a b)) (told (Ok n)) used w₀ (set w₂ (used + 2) (n - used))
+        inner_made k j p =
             let d = did_it in
             let g : used + 3 ≤ length w₀ = node_room (expr_in s t a b) used depth w₀ D in
             let c : n - used ≡ suc (suc (suc (length d.list))) = omega (arith, d.ends) in
-            let y : take n w₂ ≡ (take used w₀ ++ ((t - 0x50) ∷ 0 ∷ 0 ∷ [])) ++ d.list = d.stands ∙ ap (λ (l : List ℕ). l ++ d.list) (ap (λ (i : ℕ). take i w₁) m ∙ put_front used w₀ w₁ (t - 0x50) 0 0 g p) in
+            let y : take n w₂ ≡ (take used w₀ ++ ((t - 0x50) ∷ 0 ∷ 0 ∷ [])) ++ d.list = d.stands ∙ ap (λ (l : List ℕ). l ++ d.list) (ap (λ (i : ℕ). take i w₁) m ∙ put_front used w₀ w₁ (t - 0x50) 0 0 g (rw j at p)) in
             appends (noded (t - 0x50) d.list) (op_is rd xs w s t a b z l h ∙ ap (mapped (noded (t - 0x50))) d.is) (omega (arith, d.ends))
             (patched w₂ (take used w₀) d.list used n (t - 0x50) 0 0 (n - used) (length-take-le used w₀ (let z : used ≤ length w₀ = omega arith in z)) (omega (arith, d.ends)) y ∙ rw c refl)
-
-        pub inner_made : (k : Kind) → k ≡ kind_of (t - 0x50) → w₁ ≡ take used w₀ ++ ((number_of_kind k ∷ 0 ∷ 0 ∷ []) ++ drop (used + 3) w₀) → Appends (expr_numbers rd xs w (expr_in s t a b)) (told (Ok n)) used w₀ (set w₂ (used + 2) (n - used))
-        inner_made k j p = made (p ∙ ap (λ (i : ℕ). take used w₀ ++ ((i ∷ 0 ∷ 0 ∷ []) ++ drop (used + 3) w₀)) (ap number_of_kind j ∙ kind_back (tag_of 0x50 t l h)))
 
 pub ruleset noding = (node_room, node_calls, node_falls, node_lost, node_found, inner_deep, inner_handed, inner_less, inner_small, inner_there, inner_made)
 

@@ -139,9 +139,10 @@ impl<'a> Schema<'a> {
     {
         if field.tag == 0x50 {
             let number = self.number_of(field.into())?;
-            return Ok(put_node(stream, used, Kind::Reference, number, NODE as u16));
+            let kind = u16::from(Kind::Reference);
+            return Ok(put_node(stream, used, kind, number, NODE as u16));
         }
-        let kind = Kind::from((field.tag - 0x50) as u16);
+        let kind = u16::from(field.tag - 0x50);
         let body = put_node(stream, used, kind, 0, 0);
         let answer = self.read_terms(field, stream, body, depth - 1);
         // here and below a refusal is handed up unaltered, in the form that docs/01-scope.md asks for

@@ -4,6 +4,7 @@
 #![tactic(auto)]
 
 ghost use Rattle.std.specs.Prelude.{◌≡◌, ◌≤◌, length, drop};
+ghost use Rattle.expression.specs.MirrorKinds.{kind_of};
 ghost use Rattle.rows.specs.MirrorRows.{parts_at, Stands};
 ghost use Rattle.instantiables.specs.MirrorRows.{Sets};
 ghost use Rattle.instantiables.specs.Told.{told_listed};
@@ -16,7 +17,7 @@ use rows::copy;
 
 // One term more, whose list stands above the node's own: it is copied out, since one slice is lent at a time.
 pub fn take_in(
-    kind: Kind,
+    kind: u16,
     n: usize,
     list: Result<Instantiables, Refusal>,
     rows: &mut [u16],
@@ -26,11 +27,11 @@ pub fn take_in(
 ) -> Result<Instantiables, Refusal>
     requires ready { Ready list rows.old × Stands (drop 1664 rows.old) term.count × Sets (parts_at term.count (drop 1664 rows.old)) }
     requires in_bounds { (1664 ≤ length factor.old) × (1664 ≤ length scratch.old) }
-    ensures { Valuing (with_term kind n (list_at list rows.old) (parts_at term.count (drop 1664 rows.old))) rows.new (told_listed result) }
+    ensures { Valuing (with_term (kind_of kind) n (list_at list rows.old) (parts_at term.count (drop 1664 rows.old))) rows.new (told_listed result) }
 {
     let own = list?;
     copy(factor, &rows[Instantiables::ROOM..], 13 * term.count);
-    match kind {
+    match Kind::from(kind) {
         Kind::Andor => own.andor_step(rows, term, factor, scratch),
         Kind::And if n == 0 => {
             copy(rows, factor, 13 * term.count);
@@ -57,12 +58,13 @@ fn fewest(kind: Kind) -> usize
 
 // All n terms are taken in: 9, then 10, then what became of the list.
 pub fn finished(
-    kind: Kind,
+    kind: u16,
     n: usize,
     list: Result<Instantiables, Refusal>,
 ) -> Result<Instantiables, Refusal>
-    ensures { told_listed result ≡ unless (refusal_of kind n) (told_listed list) }
+    ensures { told_listed result ≡ unless (refusal_of (kind_of kind) n) (told_listed list) }
 {
+    let kind = Kind::from(kind);
     if n < fewest(kind) {
         return Err(Reason::TooFewTerms.into());
     }

@@ -13,8 +13,8 @@ overflow_cast-nodes c =
 
 pub returns : goal.returns
 returns c = λ cs xs i j.
-    combined_more _ _ c.args.nodes.now _ _ _ _ _ _ c.args.owner c.put_node-body.ensures c.put_rules-middle.ensures c.put_fresh-stop.ensures c.requires.records c.requires.pairs c.requires.pairs_in_bounds.0 c.put_node-body.auto.nodes c.put_rules-middle.auto.nodes c.put_fresh-stop.auto.nodes cs xs i j c.if-stop-middle.false
+    combined_more _ _ c.args.nodes.now _ _ _ _ _ _ c.args.owner (rw c.from.ensures at c.put_node-body.ensures) c.put_rules-middle.ensures c.put_fresh-stop.ensures c.requires.records c.requires.pairs c.requires.pairs_in_bounds.0 c.put_node-body.auto.nodes c.put_rules-middle.auto.nodes c.put_fresh-stop.auto.nodes cs xs i j c.if-stop-middle.false
 
 pub returns-then-stop-middle : goal.returns-then-stop-middle
 returns-then-stop-middle c = λ cs xs i j.
-    combined_alone _ _ c.args.nodes.now _ _ _ _ _ _ c.args.owner c.put_node-body.ensures c.put_rules-middle.ensures c.put_fresh-stop.ensures c.requires.records c.requires.pairs c.requires.pairs_in_bounds.0 c.put_node-body.auto.nodes c.put_rules-middle.auto.nodes c.put_fresh-stop.auto.nodes cs xs i j c.if-stop-middle.true _ c.alone.ensures
+    combined_alone _ _ c.args.nodes.now _ _ _ _ _ _ c.args.owner (rw c.from.ensures at c.put_node-body.ensures) c.put_rules-middle.ensures c.put_fresh-stop.ensures c.requires.records c.requires.pairs c.requires.pairs_in_bounds.0 c.put_node-body.auto.nodes c.put_rules-middle.auto.nodes c.put_fresh-stop.auto.nodes cs xs i j c.if-stop-middle.true _ c.alone.ensures

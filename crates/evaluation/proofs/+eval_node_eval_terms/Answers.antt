@@ -1,5 +1,5 @@
 -- What the two calls owe: a node is long enough, its terms are nodes, and the walk goes on by `onward`.
-use mathlib.Core.Path.{◌≡◌, ap, ◌∙◌}
+use mathlib.Core.Path.{◌≡◌, refl, ap, ◌∙◌}
 use Prim.Native.Nat.{ℕ}
 use lib.ListN.{length, take, drop}
 use borrow.Author.Tests.{tests}
@@ -39,7 +39,7 @@ eval_node-eval_terms-requires t c = (
 )
 
 pub eval_node-returns-in_default : goal.eval_node-returns-in_default
-eval_node-returns-in_default t c e h = opened _ e _ _ _ h c.from.ensures c.in_default.not-Reference c.eval_terms.ensures
+eval_node-returns-in_default t c e h = opened _ e _ _ _ h refl (λ k. c.in_default.not-Reference (c.from.ensures ∙ k)) c.eval_terms.ensures
 
 pub eval_terms-loop-left-init : goal.eval_terms-loop-left-init
 eval_terms-loop-left-init t c = search (walking, rules)

@@ -2,11 +2,10 @@
 use Rattle.std.proofs.Common.{rules}
 use borrow.Author.Tests.{tests}
 use mathlib.Core.Logic.{inl, inr}
-use mathlib.Core.Path.{refl, ap, ◌∙◌}
+use mathlib.Core.Path.{refl, ◌∙◌}
 use Prim.Native.Nat.{◌+◌}
 use native.Mathlib.Omega.{arith}
-use Rattle.expression.specs.MirrorKinds.{number_of_kind}
-use Rattle.expression.proofs.Numbered.{number_back, no_reference}
+use Rattle.expression.proofs.Numbered.{no_reference}
 use Rattle.nodes.proofs.Standing.{too_deep, no_room, no_field, more_behind, tag_off, one_field, node_missing, node_read, none_yet, term_cut, none_more, one_more, all_read}
 use Rattle.nodes.proofs.+read_node_read_terms.Goals as goal
 use Rattle.nodes.proofs.+read_node_read_terms.Goals.{read_node-then-tag-lt-TAG-via-then-tag-lt-TAG, read_node-then-tag-lt-TAG-via-else-tag-lt-TAG+then-tag-gt-LAST_TAG}
@@ -29,10 +28,10 @@ read_node-returns-then-tag-lt-TAG t c = tag_off _ _ _ _ (elim c.then-tag-lt-TAG.
 pub read_node-returns-in_err-next-in_default : goal.read_node-returns-in_err-next-in_default
 read_node-returns-in_err-next-in_default t c =
     node_missing (record {
-      node = rw (ap number_of_kind c.from-2.ensures ∙ number_back c.from.result (omega (arith, c.from.ensures, c.if-tag-gt-LAST_TAG.false))) at c.put_node-body.ensures;
-      is = one_field c.args.field.now _ _ (80 + c.from.result) c.in_ok-behind.ensures (search (rules, tests)) (omega (arith, c.from.ensures, c.if-tag-lt-TAG.false));
-      low = no_reference c.from.result (λ e. c.in_default.not-Reference (c.from-2.ensures ∙ e));
-      high = omega (arith, c.from.ensures, c.if-tag-gt-LAST_TAG.false);
+      node = c.put_node-body.ensures;
+      is = one_field c.args.field.now _ _ (80 + c.from-kind.result) c.in_ok-behind.ensures (search (rules, tests)) (omega (arith, c.from-kind.ensures, c.if-tag-lt-TAG.false));
+      low = no_reference c.from-kind.result (λ e. c.in_default.not-Reference (c.from.ensures ∙ e));
+      high = omega (arith, c.from-kind.ensures, c.if-tag-gt-LAST_TAG.false);
       two = c.if-depth-lt2.false;
       room = omega (arith, c.requires, c.if-nodes-used-lt-NODE.false);
       long = c.put_node-body.auto.nodes;
@@ -48,10 +47,10 @@ read_node-overflow_cast-nodes t c = omega (arith, c.requires, c.put_node-body.au
 pub read_node-returns-in_ok-next-in_default : goal.read_node-returns-in_ok-next-in_default
 read_node-returns-in_ok-next-in_default t c =
     node_read (record {
-      node = rw (ap number_of_kind c.from-2.ensures ∙ number_back c.from.result (omega (arith, c.from.ensures, c.if-tag-gt-LAST_TAG.false))) at c.put_node-body.ensures;
-      is = one_field c.args.field.now _ _ (80 + c.from.result) c.in_ok-behind.ensures (search (rules, tests)) (omega (arith, c.from.ensures, c.if-tag-lt-TAG.false));
-      low = no_reference c.from.result (λ e. c.in_default.not-Reference (c.from-2.ensures ∙ e));
-      high = omega (arith, c.from.ensures, c.if-tag-gt-LAST_TAG.false);
+      node = c.put_node-body.ensures;
+      is = one_field c.args.field.now _ _ (80 + c.from-kind.result) c.in_ok-behind.ensures (search (rules, tests)) (omega (arith, c.from-kind.ensures, c.if-tag-lt-TAG.false));
+      low = no_reference c.from-kind.result (λ e. c.in_default.not-Reference (c.from.ensures ∙ e));
+      high = omega (arith, c.from-kind.ensures, c.if-tag-gt-LAST_TAG.false);
       two = c.if-depth-lt2.false;
       room = omega (arith, c.requires, c.if-nodes-used-lt-NODE.false);
       long = c.put_node-body.auto.nodes;

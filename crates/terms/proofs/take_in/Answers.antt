@@ -1,8 +1,9 @@
 -- `take_in` meets its contract: one law for each way through it.
+use mathlib.Core.Path.{sym, ◌∙◌}
 use native.Mathlib.Omega.{arith}
 use borrow.Author.Rules.{rules}
 use Rattle.instantiables.proofs.Factors.{copied_sets}
-use Rattle.terms.proofs.Taking.{taking, taken_not, own_stands, own_sets, own_small, above, term_sets}
+use Rattle.terms.proofs.Taking.{taking, taken_not, own_stands, own_sets, own_small, above, term_sets, taken_first}
 use Rattle.terms.proofs.take_in.Goals as goal
 
 pub returns-in_err-own : goal.returns-in_err-own
@@ -45,7 +46,7 @@ pub returns-in-Andor : goal.returns-in-Andor
 returns-in-Andor c = search (taking, c.in_ok-own.was, rules)
 
 pub returns-in-And : goal.returns-in-And
-returns-in-And c = search (taking, c.in_ok-own.was, rules)
+returns-in-And c = taken_first _ _ _ _ c.requires.ready.1 c.copy.ensures _ _ _ _ c.in_ok-own.was _ (sym c.from.ensures ∙ c.in-And.is) c.if-n-eq0.true c.copy-in-And.ensures
 
 pub returns-in-And-2 : goal.returns-in-And-2
 returns-in-And-2 c = search (taking, c.in_ok-own.was, rules)
