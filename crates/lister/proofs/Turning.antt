@@ -43,9 +43,12 @@ module _ (rd : Reading) (s names work : List ℕ) (c : Cursor) where
   types_given n e before after r f = rw e (f work)
 
   -- ---- the refusal, and the end
-  pub refusal_given : (why : Refusal) → c ≡ on.Refusal why → (before after : List ℕ) (stop : ℕ) → Puts (refused_line (number_of why.reason) why.place) 0 stop before after → GivesFirst rd s names work c work before after (Some (record { stop = stop; next = on.End }))
+  pub refusal_given : (why : Refusal) → c ≡ on.Refusal why → (before after : List ℕ) (stop n : ℕ) → n ≡ number_of why.reason → Puts (refused_line n why.place) 0 stop before after → GivesFirst rd s names work c work before after (Some (record { stop = stop; next = on.End }))
   unfolding Rest Gives refused_line
-  refusal_given why e before after stop P = record { first = λ walked W ls q. let z : ls ≡ refused_line (number_of why.reason) why.place ∷ [] = rw e at q in rw z (omega (arith, P.end), P, refl) }
+  refusal_given why e before after stop n i P =
+      let line = refused_line (number_of why.reason) why.place in
+      let there : Puts line 0 stop before after = rw i at P in
+      record { first = λ walked W ls q. let z : ls ≡ line ∷ [] = rw e at q in rw z (omega (arith, there.end), there, refl) }
 
   pub end_given : c ≡ on.End → (l : List ℕ) → GivesFirst rd s names work c work l l None
   unfolding Rest Gives

@@ -83,7 +83,7 @@ pub fn next_line(
 {
     match cursor {
         Cursor::Refusal(why) => Some(Line {
-            stop: refused_line(out, why),
+            stop: refused_line(out, u8::from(why.reason), why.place),
             next: Cursor::End,
         }),
         Cursor::Supertypes(records) => {

@@ -75,10 +75,10 @@ module _ {at r : ℕ} {x y : List ℕ} where
   unfolding or_refused
   puts_count count n e f = rw e f
 
-  pub puts_no_count : (count : Result ℕ Refusal) (why : Refusal) → count ≡ Err why → Puts (refused_text (number_of why.reason)) at r x y
+  pub puts_no_count : (count : Result ℕ Refusal) (why : Refusal) → count ≡ Err why → (n : ℕ) → n ≡ number_of why.reason → Puts (refused_text n) at r x y
       → Puts (or_refused decimal (told count)) at r x y
   unfolding or_refused refused_text
-  puts_no_count count why e f = rw e f
+  puts_no_count count why e n i f = rw e (rw i at f)
 
   pub flags_room : (a b : Bool) → Puts (flags (a, b)) at r x y → r ≤ at + 13
   flags_room a b f = omega (arith, f.end, flags_length a b)
@@ -88,10 +88,10 @@ module _ {at r : ℕ} {x y : List ℕ} where
   unfolding or_refused
   puts_flags asked both e f = rw e f
 
-  pub puts_no_flags : (asked : Result Flags Refusal) (why : Refusal) → asked ≡ Err why → Puts (refused_text (number_of why.reason)) at r x y
+  pub puts_no_flags : (asked : Result Flags Refusal) (why : Refusal) → asked ≡ Err why → (n : ℕ) → n ≡ number_of why.reason → Puts (refused_text n) at r x y
       → Puts (or_refused flags (told_flags asked)) at r x y
   unfolding or_refused refused_text
-  puts_no_flags asked why e f = rw e f
+  puts_no_flags asked why e n i f = rw e (rw i at f)
 
 -- ---- a line is its pieces
 pub refused_line_law : (n place : ℕ) → refused_line n place ≡ refused_text n ++ (blank ++ (decimal place ++ line_feed))

@@ -2,12 +2,12 @@
 #![tactic(auto)]
 
 ghost use Rattle.std.specs.Prelude.{◌≡◌, [], ◌∷◌, ◌++◌, ◌+◌, ◌≤◌, ◌<◌, length};
-ghost use Rattle.refusal.specs.Told.{number_of, told};
+ghost use Rattle.refusal.specs.Told.{told};
 ghost use Rattle.text.specs.MeaningText.{blank, line_feed, decimal, flag, flags, path_text, refused_line, or_refused, supertype_line, type_line};
 ghost use Rattle.text.specs.MirrorText.{Puts, refused_text, start_text, next_text, Counted};
 ghost use Rattle.text.specs.Told.{told_flags};
 
-use refusal::{Reason, Refusal};
+use refusal::Refusal;
 
 // What is asked of a type.
 #[derive(Clone, Copy, Debug, PartialEq, Eq)]
@@ -73,13 +73,12 @@ pub fn put_path(out: &mut [u8], at: usize, schema: &[u8], item: &[u8]) -> usize
 }
 
 // The word and the number of a refusal, without its place.
-fn put_refused(out: &mut [u8], at: usize, reason: Reason) -> usize
+fn put_refused(out: &mut [u8], at: usize, number: u8) -> usize
     requires { at + 13 ≤ length out.old }
-    ensures { Puts (refused_text (number_of reason)) at result out.old out.new × (result ≤ at + 13) }
+    ensures { Puts (refused_text number) at result out.old out.new × (result ≤ at + 13) }
 {
     let space = put_bytes(out, at, b"refused");
     let digits = put_byte(out, space, b' ');
-    let number = u8::from(reason);
     put_decimal(out, digits, usize::from(number))
 }
 
@@ -89,7 +88,7 @@ fn put_count(out: &mut [u8], at: usize, count: Result<usize, Refusal>) -> usize
 {
     match count {
         Ok(number) => put_decimal(out, at, number),
-        Err(why) => put_refused(out, at, why.reason),
+        Err(why) => put_refused(out, at, u8::from(why.reason)),
     }
 }
 
@@ -108,7 +107,7 @@ fn put_flags(out: &mut [u8], at: usize, asked: Result<Flags, Refusal>) -> usize
 {
     match asked {
         Ok(both) => put_both(out, at, both),
-        Err(why) => put_refused(out, at, why.reason),
+        Err(why) => put_refused(out, at, u8::from(why.reason)),
     }
 }
 
@@ -119,14 +118,14 @@ pub fn line_end(out: &mut [u8], at: usize) -> usize
     put_byte(out, at, b'\n')
 }
 
-// A place of 64 bits has at most 20 digits.
-pub fn refused_line(out: &mut [u8], refusal: Refusal) -> usize
+// The line of any number and place, not of a reason's alone. A place of 64 bits has at most 20 digits.
+pub fn refused_line(out: &mut [u8], number: u8, place: usize) -> usize
     requires { 40 ≤ length out.old }
-    ensures { Puts (refused_line (number_of refusal.reason) refusal.place) 0 result out.old out.new }
+    ensures { Puts (refused_line number place) 0 result out.old out.new }
 {
-    let space = put_refused(out, 0, refusal.reason);
-    let place = put_byte(out, space, b' ');
-    let end = put_decimal(out, place, refusal.place);
+    let space = put_refused(out, 0, number);
+    let digits = put_byte(out, space, b' ');
+    let end = put_decimal(out, digits, place);
     line_end(out, end)
 }
 
