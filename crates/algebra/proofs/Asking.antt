@@ -117,10 +117,12 @@ module _ (left right : List ℕ) (r s : Read) (w : r ≡ judged (1 ∷ []) left)
   compare_refused why e =
       rw (order_both v r s o (read_part left) (read_part right) (part_at left ∷ []) why (part_read left r w) (part_refused left r w) (part_refused right s x) e) refl
 
-  pub compare_is : (p q : Part) (c : std.Ordering) (u : Unit {0}) → v ≡ Ok u → p ≡ part_at (drop 0 left) → q ≡ part_at (drop 0 right) → told_order c ≡ order p q
-      → told_compared (Ok c) ≡ ask_compare left right
+  pub compare_is : (a b : PartialComplexEntity) (c : std.Ordering) (u : Unit {0}) → v ≡ Ok u → a ≡ part_of (part_at (drop 0 left)) → b ≡ part_of (part_at (drop 0 right))
+      → told_order c ≡ order (names_of a) (names_of b) → told_compared (Ok c) ≡ ask_compare left right
   unfolding ask_compare both
-  compare_is p q c u e m n h =
+  compare_is a b c u e p q h =
+      let m : names_of a ≡ part_at left = ap names_of p ∙ names_of_part (part_at left) in
+      let n : names_of b ≡ part_at right = ap names_of q ∙ names_of_part (part_at right) in
       rw (part_read left r w (order_whole v r s o u e), part_read right s x (order_whole_right v r s o u e)) (ap (λ (z : Ordering). done z) (rw (m, n) at h))
 
 pub ruleset comparing = (order_whole, order_whole_right, part_room, compare_refused, compare_is)

@@ -37,9 +37,7 @@ pub fn compare(left: &[u16], right: &[u16]) -> Result<Ordering, Refusal>
     ensures { PromiseCompare left.now right.now result }
 {
     in_order(Part::read(left), Part::read(right))?;
-    let names = PartialComplexEntity::names_at(left, 0);
-    let others = PartialComplexEntity::names_at(right, 0);
-    Ok(PartialComplexEntity::order(names, others))
+    Ok(PartialComplexEntity::read(left, 0).compare(PartialComplexEntity::read(right, 0)))
 }
 
 pub fn join(left: &[u16], right: &[u16], out: &mut [u16]) -> Result<Instantiables, Refusal>

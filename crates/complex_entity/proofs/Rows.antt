@@ -1,18 +1,18 @@
 -- A part as a row of 13 numbers: what is read back is what was written, and how a row is read and written.
 use Prim.Native.Nat.{ℕ, suc, ◌+◌, ◌-◌, ◌≤◌}
 use mathlib.Core.Path.{◌≡◌, refl, sym, ap, ◌∙◌}
-use mathlib.Core.List.{List, ◌∷◌, ◌++◌, append_assoc}
+use mathlib.Core.List.{List, [], ◌∷◌, ◌++◌, append_assoc, append-nil}
 use native.Mathlib.Omega.{arith}
-use lib.ListN.{length, drop, set, replicate, length-take}
-use lib.Seq.{take-take, take_at, paste}
+use lib.ListN.{length, take, drop, set, replicate, length-take, length-drop, drop_of_length-le}
+use lib.Seq.{take-take, take_at, paste, length-take-le}
 use borrow.Rule.Slice.PartMut.{put_mid}
 use Rattle.std.proofs.lemmas.List.{drop-replicate}
 use Rattle.std.proofs.lemmas.Slice.{put_mid-paste}
 use Rattle.complex_entity.specs.declared.PartialComplexEntity.{PartialComplexEntity}
 use Rattle.complex_entity.specs.MeaningParts.{Part}
 use Rattle.complex_entity.specs.MeaningRows.{row_of}
-use Rattle.complex_entity.specs.MirrorParts.{part_of, part_at}
-use Rattle.complex_entity.proofs.Names.{part_is, part_long}
+use Rattle.complex_entity.specs.MirrorParts.{names_of, part_of, part_at}
+use Rattle.complex_entity.proofs.Names.{names_few, part_is, part_long}
 
 pub part_at_few : (l : List ℕ) → length (part_at l) ≤ 12
 part_at_few l = rw (length-take, length-take) (omega arith)
@@ -35,15 +35,24 @@ row_read names new q f e h =
     let z : ℕ = 0 in
     part_is (length names) (new ++ drop (length names) (replicate 12 0)) q (ap length (sym e)) (rw (f, e, drop-replicate (length q) 12 z) refl)
 
--- a count and names go to a row of zeros
-row_put : (names : Part) → length names ≤ 12 → put_mid 1 (1 + length names - 1) (set (replicate 13 0) 0 (length names)) names ≡ row_of names
-unfolding row_of
-row_put names h =
-    let z : ℕ = 0 in
-    let k : 1 + length names - 1 ≡ length names = omega arith in
-    ap (λ (x : List ℕ). length names ∷ (names ++ x)) (ap (λ (j : ℕ). drop j (replicate 12 0)) k ∙ drop-replicate (length names) 12 z)
+-- a count and twelve numbers go to a row, of which nothing is left
+row_filled : (row new : List ℕ) (n : ℕ) → length row ≡ 13 → length new ≡ 12 → put_mid 1 (length (set row 0 n) - 1) (set row 0 n) new ≡ n ∷ new
+row_filled [] new n e f = absurd (omega (arith, e))
+row_filled (x ∷ xs) new n e f =
+    let k : length (n ∷ xs) - 1 ≡ 12 = omega (arith, e) in
+    ap (λ (l : List ℕ). n ∷ (new ++ l)) (ap (λ (j : ℕ). drop j xs) k ∙ drop_of_length-le xs {i = 12} (omega (arith, e))) ∙ ap (λ (l : List ℕ). n ∷ l) (append-nil new)
 
-pub row_written : (rows names new zeros : List ℕ) (at n : ℕ) → at + 13 ≤ length rows → new ≡ names → n ≡ length names → length names ≤ 12 → zeros ≡ replicate 13 0
-    → put_mid at (at + 13 - at) rows (put_mid 1 (1 + n - 1) (set zeros 0 n) new) ≡ paste rows at (row_of names) 13
-row_written rows names new zeros at n h f e few z =
-    put_mid-paste at (at + 13 - at) rows _ (row_of names) 13 (rw (z, f, e) (row_put names few)) (omega arith) (omega (arith, row_long names few))
+-- a part with zeros after its names: its numbers are the row's
+pub row_written : (p : PartialComplexEntity) (rows new : List ℕ) (at : ℕ) → at + 13 ≤ length rows → length p.names ≡ 12 → p ≡ part_of (names_of p) → new ≡ p.names
+    → put_mid at (at + 13 - at) rows (put_mid 1 (length (set (take (at + 13 - at) (drop at rows)) 0 p.n) - 1) (set (take (at + 13 - at) (drop at rows)) 0 p.n) new)
+    ≡ paste rows at (row_of (names_of p)) 13
+unfolding row_of
+row_written p rows new at h l e f =
+    let m : at + 13 - at ≡ 13 = omega arith in
+    let k : length (take (at + 13 - at) (drop at rows)) ≡ 13 = rw m (length-take-le 13 (drop at rows) (omega (arith, length-drop at rows))) in
+    let few : length (names_of p) ≤ 12 = names_few p l in
+    put_mid-paste at (at + 13 - at) rows _ (row_of (names_of p)) 13
+    (row_filled (take (at + 13 - at) (drop at rows)) new p.n k (ap length f ∙ l)
+    ∙ ap (λ (x : List ℕ). p.n ∷ x) f
+    ∙ ap (λ (q : PartialComplexEntity). q.n ∷ q.names) e)
+    (omega arith) (omega (arith, row_long (names_of p) few))

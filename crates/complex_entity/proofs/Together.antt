@@ -7,15 +7,12 @@ use lib.ListN.{length, get_or, drop, set, replicate}
 use lib.Seq.{drop-drop}
 use Rattle.std.specs.Prelude.{Option, None, Some, Ok, Err}
 use Rattle.std.proofs.lemmas.Option.{same_Some}
-use Rattle.std.specs.Ordering.{nat_cmp}
-use Rattle.std.specs.declared.cmp.Ordering.TheVariants.{Less, Equal, Greater}
 use Rattle.refusal.specs.declared.Reason.TheVariants.{TooManySets}
 use Rattle.refusal.specs.declared.Refusal.{Refusal}
 use Rattle.complex_entity.specs.MeaningParts.{Part}
 use Rattle.complex_entity.specs.MirrorParts.{narrowed, Makes, by, merge, takes, turn_of}
-use Rattle.complex_entity.specs.Told.{told_order}
 use Rattle.complex_entity.proofs.Names.{rest_some, rest_none}
-use Rattle.complex_entity.proofs.Precedence.{told_nat}
+use Rattle.complex_entity.proofs.Orders.{lt→cmp, gt→cmp, compare_self}
 use Rattle.complex_entity.proofs.Filling.{Filling, fill_start, fill_next}
 use Rattle.complex_entity.proofs.Answers.{filled_made, filled_over}
 
@@ -38,14 +35,14 @@ module _ (l r : List ℕ) (i j : ℕ) where
     unfolding turn_of
     turn_compared o d = rw (rest_some l i x h e, rest_some r j y g f, d)
 
-    pub turn_left : Less ≡ nat_cmp x y → takes x (i + 1) j ≡ turn_of i j (drop i l) (drop j r)
-    turn_left d = turn_compared Ordering.lt (sym (told_nat x y) ∙ ap told_order (sym d))
+    pub turn_left : x < y → takes x (i + 1) j ≡ turn_of i j (drop i l) (drop j r)
+    turn_left w = turn_compared Ordering.lt (lt→cmp x y w)
 
-    pub turn_both : Equal ≡ nat_cmp x y → takes x (i + 1) (j + 1) ≡ turn_of i j (drop i l) (drop j r)
-    turn_both d = turn_compared Ordering.eq (sym (told_nat x y) ∙ ap told_order (sym d))
+    pub turn_right : y < x → takes y i (j + 1) ≡ turn_of i j (drop i l) (drop j r)
+    turn_right w = turn_compared Ordering.gt (gt→cmp x y w)
 
-    pub turn_right : Greater ≡ nat_cmp x y → takes y i (j + 1) ≡ turn_of i j (drop i l) (drop j r)
-    turn_right d = turn_compared Ordering.gt (sym (told_nat x y) ∙ ap told_order (sym d))
+    pub turn_both : y ≤ x → x ≤ y → takes x (i + 1) (j + 1) ≡ turn_of i j (drop i l) (drop j r)
+    turn_both w w' = let z : x ≡ y = omega arith in turn_compared Ordering.eq (rw z (compare_self y))
 
 pub ruleset turning = (turn_end, turn_only_right, turn_only_left, turn_left, turn_both, turn_right)
 

@@ -53,18 +53,23 @@ impl PartialComplexEntity {
         &rows[at + 1..at + 1 + n]
     }
 
-    // Fewer names first, then the lists of names compared: one by one, as they are short, which takes half the time of the library's `cmp` of slices.
+    // Fewer names first, then the lists of names compared.
+    // By two tests and one by one: what is done then goes by the test, where with `cmp` it would go by its answer, which is made and tested again.
     pub fn order(names: &[u16], others: &[u16]) -> Ordering
         ensures { told_order result ≡ order names.now others.now }
     {
-        let counts = names.len().cmp(&others.len());
-        if counts.is_ne() {
-            return counts;
+        if names.len() < others.len() {
+            return Ordering::Less;
+        }
+        if others.len() < names.len() {
+            return Ordering::Greater;
         }
         for (x, y) in names.iter().zip(others) {
-            let order = x.cmp(y);
-            if order.is_ne() {
-                return order;
+            if *x < *y {
+                return Ordering::Less;
+            }
+            if *y < *x {
+                return Ordering::Greater;
             }
         }
         Ordering::Equal
@@ -125,11 +130,15 @@ impl PartialComplexEntity {
             (None, None) => None,
             (Some(x), None) => Some((*x, i + 1, j)),
             (None, Some(y)) => Some((*y, i, j + 1)),
-            (Some(x), Some(y)) => match x.cmp(y) {
-                Ordering::Less => Some((*x, i + 1, j)),
-                Ordering::Equal => Some((*x, i + 1, j + 1)),
-                Ordering::Greater => Some((*y, i, j + 1)),
-            },
+            (Some(x), Some(y)) => {
+                if *x < *y {
+                    Some((*x, i + 1, j))
+                } else if *y < *x {
+                    Some((*y, i, j + 1))
+                } else {
+                    Some((*x, i + 1, j + 1))
+                }
+            }
         }
     }
 
@@ -138,13 +147,27 @@ impl PartialComplexEntity {
         requires { at + 13 ≤ length rows.now }
         ensures { result ≡ part_of (part_at (drop at rows.now)) }
     {
-        let row = Self::names_at(rows, at);
-        let mut names = [0u16; Self::LIMIT];
-        names[..row.len()].copy_from_slice(row);
+        Self::of(Self::names_at(rows, at))
+    }
+
+    // The part of some names.
+    fn of(names: &[u16]) -> Self
+        requires { length names.now ≤ 12 }
+        ensures { result ≡ part_of names.now }
+    {
+        let mut all = [0u16; Self::LIMIT];
+        all[..names.len()].copy_from_slice(names);
         Self {
-            n: row.len(),
-            names,
+            n: names.len(),
+            names: all,
         }
+    }
+
+    // The same part, with zeros after its names.
+    pub fn padded(self) -> Self
+        ensures { result ≡ part_of (names_of self) }
+    {
+        Self::of(self.as_slice())
     }
 
     // The part's row goes to a place: a count, the names, zeros.
@@ -152,10 +175,16 @@ impl PartialComplexEntity {
         requires { at + 13 ≤ length rows.old }
         ensures { rows.new ≡ paste rows.old at (row_of (names_of self)) 13 }
     {
-        let names = self.as_slice();
+        self.padded().put(rows, at);
+    }
+
+    // The same where zeros stand after the part's names: its numbers go as they are, an array as a whole.
+    pub fn put(self, rows: &mut [u16], at: usize)
+        requires { (at + 13 ≤ length rows.old) × (self ≡ part_of (names_of self)) }
+        ensures { rows.new ≡ paste rows.old at (row_of (names_of self)) 13 }
+    {
         let row = &mut rows[at..at + Self::ROW];
-        row.fill(0);
-        row[0] = names.len() as u16;
-        row[1..1 + names.len()].copy_from_slice(names);
+        row[0] = self.n as u16;
+        row[1..].copy_from_slice(&self.names);
     }
 }

@@ -5,7 +5,7 @@
 
 ghost use Rattle.std.specs.Prelude.{◌≡◌, [], ◌∷◌, ◌+◌, ◌*◌, ◌≤◌, length, drop};
 ghost use Rattle.complex_entity.specs.MeaningLists.{add, joins, bitand, held};
-ghost use Rattle.complex_entity.specs.MirrorParts.{names_of, part_at};
+ghost use Rattle.complex_entity.specs.MirrorParts.{names_of, part_of, part_at};
 ghost use Rattle.rows.specs.MirrorRows.{parts_at, Stands, Put};
 ghost use Rattle.instantiables.specs.MirrorRows.{Sets, Listing};
 ghost use Rattle.complex_entity.specs.MirrorLists.{grown};
@@ -43,7 +43,7 @@ impl Instantiables {
         requires { 13 ≤ length rows.old }
         ensures { (result ≡ record { count = 1 }) × Put ((index ∷ []) ∷ []) rows.old rows.new }
     {
-        PartialComplexEntity::single(index).write(rows, 0);
+        PartialComplexEntity::single(index).put(rows, 0);
         Self { count: 1 }
     }
 
@@ -52,7 +52,17 @@ impl Instantiables {
         requires { Stands rows.old self.count }
         ensures { Listing (held (add (parts_at self.count rows.old) (names_of part ∷ []))) rows.old rows.new (told_listed result) }
     {
-        let Err(i) = place_last(rows, self.count, part.as_slice()) else {
+        self.add_padded(rows, part.padded())
+    }
+
+    // The same of a part that has zeros after its names, as each has that is read or joined.
+    fn add_padded(self, rows: &mut [u16], part: PartialComplexEntity) -> Result<Self, Refusal>
+        requires { Stands rows.old self.count × (part ≡ part_of (names_of part)) }
+        ensures { Listing (held (add (parts_at self.count rows.old) (names_of part ∷ []))) rows.old rows.new (told_listed result) }
+    {
+        // the count by itself, which is there before names that were just written one by one
+        let PartialComplexEntity { n, names } = part;
+        let Err(i) = place_last(rows, self.count, &names[..n]) else {
             return Ok(self);
         };
         if self.count >= Self::LIMIT {
@@ -65,7 +75,7 @@ impl Instantiables {
             at + PartialComplexEntity::ROW,
             PartialComplexEntity::ROW * self.count - at,
         );
-        part.write(rows, at);
+        part.put(rows, at);
         Ok(Self {
             count: self.count + 1,
         })
@@ -79,7 +89,7 @@ impl Instantiables {
         let mut list = self;
         for i in 0..other.count {
             let part = PartialComplexEntity::read(others, PartialComplexEntity::ROW * i);
-            let answer = list.add_part(rows, part);
+            let answer = list.add_padded(rows, part);
             let Ok(more) = answer else {
                 return answer;
             };
@@ -109,7 +119,7 @@ impl Instantiables {
                 PartialComplexEntity::ROW * i,
             );
             let part = PartialComplexEntity::merged(names, others_names)?;
-            let answer = list.add_part(rows, part);
+            let answer = list.add_padded(rows, part);
             let Ok(more) = answer else {
                 return answer;
             };

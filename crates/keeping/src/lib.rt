@@ -56,7 +56,7 @@ fn keep<F: Fn(PartialComplexEntity) -> bool>(
     for i in 0..list.count {
         let part = PartialComplexEntity::read(rows, PartialComplexEntity::ROW * i);
         if wanted(part) {
-            part.write(rows, PartialComplexEntity::ROW * kept);
+            part.put(rows, PartialComplexEntity::ROW * kept);
             kept += 1;
         }
     }

@@ -1,70 +1,142 @@
--- One row: the tests that are made of its numbers.
+-- One row: the loop that looks at its numbers one after the other.
 use Prim.Native.Nat.{ℕ, zero, suc, ◌+◌, ◌-◌, ◌≤◌, ◌<◌}
 use mathlib.Core.Path.{◌≡◌, refl, sym, ap, ◌∙◌}
 use mathlib.Core.List.{List, [], ◌∷◌}
 use mathlib.Core.Bool.{Bool, true, false, ◌&&◌}
 use native.Mathlib.Omega.{arith}
 use native.Mathlib.Numerals.{add-one}
-use lib.ListN.{length, get_or, take, drop}
-use lib.Seq.{drop-drop}
-use lib.Dec.{leb, ltb, eqb}
+use lib.ListN.{length, get_or, take, drop, drop_of_length-le}
+use lib.Seq.{drop-cons, drop-drop}
+use lib.Dec.{leb, eqb, leb-zero}
 use borrow.Author.Tests.{le-leb, lt-leb, eq-eqb, ne_eqb}
-use Rattle.std.specs.List.{list_all, AllAdjacentBelow, IsAllAdjacentAnswer}
 use Rattle.complex_entity.specs.MeaningParts.{last_index}
-use Rattle.instantiables.proofs.Listings.{tail_is}
-use Rattle.operands.specs.MeaningOperands.{each, rises_after, rises, is_row}
+use Rattle.operands.specs.MeaningOperands.{each, rises_after, rises, names_in, is_row}
 
-pub each_is : (f : ℕ → Bool) (l : List ℕ) → list_all f l ≡ each f l
-each_is f [] = refl
-each_is f (x ∷ l) = ap (λ (b : Bool). f x && b) (each_is f l)
+-- n names, each at least the least that may come and at most the last index, and then zeros
+unfoldable pub rest_of : ℕ → ℕ → List ℕ → Bool
+rest_of zero low [] = true
+rest_of zero low (x ∷ l) = eqb x 0 && rest_of zero low l
+rest_of (suc n) low [] = true
+rest_of (suc n) low (x ∷ l) = leb low x && (leb x last_index && rest_of n (suc x) l)
 
--- ---- names rise where each is less than the next
-all_rise : (l : List ℕ) → AllAdjacentBelow (λ x y. true ≡ ltb x y) l (length l) → rises l ≡ true
-all_rise [] f = refl
-all_rise (x ∷ []) f = refl
-all_rise (x ∷ y ∷ l) f =
-    rw (sym (f 0 0 (omega arith))) (all_rise (y ∷ l) (λ k d h. let b : suc k + 1 ≡ suc (k + 1) = omega arith in rw b at (f (suc k) d (omega arith))))
+rises_from : ℕ → List ℕ → Bool
+rises_from low [] = true
+rises_from low (x ∷ l) = leb low x && rises_after x l
 
-one_falls : (l : List ℕ) (k : ℕ) → suc k < length l → false ≡ ltb (get_or l k 0) (get_or l (suc k) 0) → rises l ≡ false
-one_falls [] k h e = absurd (omega arith)
-one_falls (x ∷ []) k h e = absurd (omega arith)
-one_falls (x ∷ y ∷ l) zero h e = rw (sym e) refl
-one_falls (x ∷ y ∷ l) (suc k) h e = go (ltb x y) (one_falls (y ∷ l) k (omega arith) e)
-  where
-    go : (b : Bool) → rises_after y l ≡ false → (b && rises_after y l) ≡ false
-    go true h = h
-    go false h = refl
+shuffle : (a b c d e : Bool) → ((a && b) && ((c && d) && e)) ≡ (a && (c && (b && (d && e))))
+shuffle true true true d e = refl
+shuffle true false true d e = refl
+shuffle true true false d e = refl
+shuffle true false false d e = refl
+shuffle false b c d e = refl
 
-pub rises_is : (l : List ℕ) (r : Bool) → IsAllAdjacentAnswer (λ x y b. b ≡ ltb x y) l r → r ≡ rises l
-rises_is l true f = sym (all_rise l f)
-rises_is l false f = sym (one_falls l f.0 (omega (arith, f.1)) (rw add-one at (f.2 0)))
+after_from : (x : ℕ) (l : List ℕ) → rises_after x l ≡ rises_from (suc x) l
+unfolding rises_from
+after_from x [] = refl
+after_from x (y ∷ l) = refl
 
--- ---- the whole row
-and_assoc : (a b c : Bool) → ((a && b) && c) ≡ (a && (b && c))
-and_assoc true b c = refl
-and_assoc false b c = refl
+zeros_are : (low : ℕ) (l : List ℕ) → each (λ n. eqb n 0) l ≡ rest_of zero low l
+unfolding rest_of
+zeros_are low [] = refl
+zeros_are low (x ∷ l) = ap (λ (b : Bool). eqb x 0 && b) (zeros_are low l)
 
-pub not_long : (row : List ℕ) → (length row ≡ 13 → ⊥) → false ≡ is_row row
+rest_is : (n low : ℕ) (l : List ℕ) → (rises_from low (take n l) && (each (λ n. leb n last_index) (take n l) && each (λ n. eqb n 0) (drop n l))) ≡ rest_of n low l
+unfolding rest_of rises_from
+rest_is zero low l = zeros_are low l
+rest_is (suc n) low [] = refl
+rest_is (suc n) low (x ∷ l) =
+    shuffle (leb low x) (rises_after x (take n l)) (leb x last_index) (each (λ n. leb n last_index) (take n l)) (each (λ n. eqb n 0) (drop n l))
+    ∙ ap (λ (b : Bool). leb low x && (leb x last_index && b))
+    (ap (λ (b : Bool). b && (each (λ n. leb n last_index) (take n l) && each (λ n. eqb n 0) (drop n l))) (after_from x (take n l)) ∙ rest_is n (suc x) l)
+
+rises_from_law : (l : List ℕ) → rises l ≡ rises_from 0 l
+unfolding rises_from
+rises_from_law [] = refl
+rises_from_law (x ∷ l) = rw (leb-zero x) refl
+
+-- a row of 13 numbers with a count of at most 12
+pub row_is : (r : List ℕ) → length r ≡ 13 → get_or r 0 0 ≤ 12 → is_row r ≡ rest_of (get_or r 0 0) 0 (drop 1 r)
 unfolding is_row
-not_long row h = rw (ne_eqb (length row) 13 h) refl
+row_is r l h =
+    rw (eq-eqb (length r) 13 l, le-leb (get_or r 0 0) 12 h, ← drop-drop (get_or r 0 0) 1 r, rises_from_law (names_in r)) (rest_is (get_or r 0 0) 0 (drop 1 r))
+
+pub record Shaping (row : List ℕ) (count low i : ℕ) (r : Bool) : Type 0 where
+  pub long : length row ≡ 13
+  pub few : count ≤ 12
+  pub at : 1 ≤ i
+  pub rest : rest_of (count + 1 - i) low (drop i row) ≡ r
+
+pub shape_long : (row : List ℕ) → (length row ≡ 13 → ⊥) → false ≡ is_row row
+unfolding is_row
+shape_long row h = rw (ne_eqb (length row) 13 h) refl
+
+pub shape_first : (row : List ℕ) → length row ≡ 13 → 0 < length row
+shape_first row l = omega arith
 
 module _ (row : List ℕ) (l : length row ≡ 13) where
-  pub too_many : 12 < get_or row 0 0 → false ≡ is_row row
+  pub shape_many : 12 < get_or row 0 0 → false ≡ is_row row
   unfolding is_row
-  too_many h = rw (eq-eqb (length row) 13 l, lt-leb (get_or row 0 0) 12 h) refl
+  shape_many h = rw (eq-eqb (length row) 13 l, lt-leb (get_or row 0 0) 12 h) refl
 
-  -- the names, and what stands behind them
-  module _ (h : get_or row 0 0 ≤ 12) (names rest : List ℕ) (n : names ≡ take (get_or row 0 0) (take (length row - 1) (drop 1 row)))
-      (z : rest ≡ drop (get_or row 0 0) (take (length row - 1) (drop 1 row))) (t : Bool) (e : t ≡ (rises names && each (λ n. leb n last_index) names)) where
-    row_is : (rises names && (each (λ n. leb n last_index) names && each (λ n. eqb n 0) rest)) ≡ is_row row
-    unfolding is_row
-    row_is = rw (eq-eqb (length row) 13 l, le-leb (get_or row 0 0) 12 h, ← drop-drop (get_or row 0 0) 1 row, n, z, tail_is row 1) refl
+  pub shape_start : get_or row 0 0 ≤ 12 → Shaping row (get_or row 0 0) 0 1 (is_row row)
+  shape_start h =
+      let e : get_or row 0 0 + 1 - 1 ≡ get_or row 0 0 = omega arith in
+      record { long = l; few = h; at = omega arith; rest = rw e (sym (row_is row l h)) }
 
-    tested : (t && each (λ n. eqb n 0) rest) ≡ is_row row
-    tested = ap (λ (b : Bool). b && each (λ n. eqb n 0) rest) e ∙ and_assoc (rises names) (each (λ n. leb n last_index) names) (each (λ n. eqb n 0) rest) ∙ row_is
+module _ (row : List ℕ) (count low i : ℕ) (r : Bool) (f : Shaping row count low i r) where
+  pub shape_done : 13 ≤ i → true ≡ r
+  unfolding rest_of
+  shape_done h =
+      let e : count + 1 - i ≡ 0 = omega (arith, f.few) in
+      sym (rw (e, drop_of_length-le row {i = i} (omega (arith, f.long))) refl) ∙ f.rest
 
-    pub no_names : t ≡ false → t ≡ is_row row
-    no_names u = u ∙ sym (ap (λ (b : Bool). b && each (λ n. eqb n 0) rest) u) ∙ tested
+  module _ (h : i < 13) where
+    here : drop i row ≡ get_or row i 0 ∷ drop (i + 1) row
+    here = rw (add-one i) (drop-cons row i 0 (omega (arith, f.long)))
 
-    pub some_names : t ≡ true → (r : Bool) → r ≡ each (λ n. eqb n 0) rest → r ≡ is_row row
-    some_names u r w = w ∙ sym (ap (λ (b : Bool). b && each (λ n. eqb n 0) rest) u) ∙ tested
+    pub shape_read : i < length row
+    shape_read = omega (arith, f.long)
+
+    module _ (g : i ≤ count) where
+      left : count + 1 - i ≡ suc (count + 1 - (i + 1))
+      left = omega arith
+
+      pub shape_low : get_or row i 0 < low → false ≡ r
+      unfolding rest_of
+      shape_low u = sym (rw (left, here, lt-leb low (get_or row i 0) u) refl) ∙ f.rest
+
+      module _ (u : low ≤ get_or row i 0) where
+        pub shape_high : last_index < get_or row i 0 → false ≡ r
+        unfolding rest_of
+        shape_high v = sym (rw (left, here, le-leb low (get_or row i 0) u, lt-leb (get_or row i 0) last_index v) refl) ∙ f.rest
+
+        pub shape_next : get_or row i 0 ≤ last_index → Shaping row count (get_or row i 0 + 1) (i + 1) r
+        unfolding rest_of
+        shape_next v =
+            record {
+              long = f.long;
+              few = f.few;
+              at = omega arith;
+              rest = sym (rw (left, here, le-leb low (get_or row i 0) u, le-leb (get_or row i 0) last_index v, add-one (get_or row i 0)) refl) ∙ f.rest;
+            }
+
+    module _ (g : count < i) where
+      none : count + 1 - i ≡ 0
+      none = omega arith
+
+      pub shape_stray : (get_or row i 0 ≡ 0 → ⊥) → false ≡ r
+      unfolding rest_of
+      shape_stray u = sym (rw (none, here, ne_eqb (get_or row i 0) 0 u) refl) ∙ f.rest
+
+      pub shape_zero : get_or row i 0 ≡ 0 → Shaping row count low (i + 1) r
+      unfolding rest_of
+      shape_zero u =
+          let e : count + 1 - (i + 1) ≡ 0 = omega arith in
+          record {
+            long = f.long;
+            few = f.few;
+            at = omega arith;
+            rest = rw e (sym (rw (none, here, eq-eqb (get_or row i 0) 0 u) refl) ∙ f.rest);
+          }
+
+pub ruleset shaping = (shape_long, shape_first, shape_many, shape_start, shape_done, shape_read, shape_low, shape_high, shape_next, shape_stray, shape_zero)

@@ -151,26 +151,39 @@ fn copy_row(rows: &mut [u16], to: usize, others: &[u16], from: usize)
     requires { (13 * to + 13 ≤ length rows.old) × (13 * from + 13 ≤ length others.now) }
     ensures { rows.new ≡ paste rows.old (13 * to) (drop (13 * from) others.now) 13 }
 {
-    let row = &others[ROW * from..ROW * from + ROW];
-    rows[ROW * to..ROW * to + ROW].copy_from_slice(row);
+    let row = row_at(others, from);
+    rows[ROW * to..ROW * to + ROW].copy_from_slice(&row);
 }
 
-// A row becomes another one too. By way of an array, which is copied as a whole: `copy_within` goes number by number, and a merge is slower by a third.
+// A row becomes another one too.
 fn move_row(rows: &mut [u16], from: usize, to: usize)
     requires { (13 * from + 13 ≤ length rows.old) × (13 * to + 13 ≤ length rows.old) }
     ensures { rows.new ≡ paste rows.old (13 * to) (drop (13 * from) rows.old) 13 }
 {
-    let mut row = [0u16; ROW];
-    row.copy_from_slice(&rows[ROW * from..ROW * from + ROW]);
-    copy_row(rows, to, &row, 0);
+    let row = row_at(rows, from);
+    rows[ROW * to..ROW * to + ROW].copy_from_slice(&row);
 }
 
-// The n numbers from a place on go to a place that is not before it.
+// The numbers of a row, by value: an array is copied as a whole, and what may be the same memory number by number.
+fn row_at(rows: &[u16], at: usize) -> [u16; 13]
+    requires { 13 * at + 13 ≤ length rows.now }
+    ensures { result ≡ take 13 (drop (13 * at) rows.now) }
+{
+    let mut row = [0u16; ROW];
+    row.copy_from_slice(&rows[ROW * at..ROW * at + ROW]);
+    row
+}
+
+// The n numbers from a place on go to a place that is not before it, the last ones first.
+// Not by `copy_within`, which brings the C function `memmove` in, that a caller in C need not have.
 pub fn raise(rows: &mut [u16], from: usize, to: usize, n: usize)
     requires { (from ≤ to) × (to + n ≤ length rows.old) }
     ensures { rows.new ≡ paste rows.old to (drop from rows.old) n }
 {
-    rows.copy_within(from..from + n, to);
+    for k in 0..n {
+        let last = n - 1 - k;
+        rows[to + last] = rows[from + last];
+    }
 }
 
 // The first n numbers of one slice go to the front of another.

@@ -1,22 +1,31 @@
 use borrow.Author.Rules.{rules}
-use borrow.Author.Tests.{tests}
-use mathlib.Core.Path.{◌∙◌}
-use lib.Dec.{eqb}
-use Rattle.std.proofs.lemmas.Iterator.{YieldsList-from_slice}
-use Rattle.std.proofs.lemmas.Iterator.Search.{all_from_yields_List}
-use Rattle.operands.proofs.Shapes.{each_is, not_long, too_many, no_names, some_names}
+use Rattle.operands.proofs.Shapes.{shape_next, shape_zero, shaping}
 use Rattle.operands.proofs.is_row.Goals as goal
+use Rattle.operands.proofs.is_row.Goals.{then-i-count+else-x-low+else-x-gt-LAST, else-i-count+else-x-ne0}
 
 pub returns-then-row-ne-ROW : goal.returns-then-row-ne-ROW
-returns-then-row-ne-ROW c = search (not_long, rules)
+returns-then-row-ne-ROW c = search (shaping, rules)
 
 pub returns-then-count-gt-LIMIT : goal.returns-then-count-gt-LIMIT
-returns-then-count-gt-LIMIT c = search (too_many, rules)
+returns-then-count-gt-LIMIT c = search (shaping, rules)
 
-pub returns-then-are_names : goal.returns-then-are_names
-returns-then-are_names c =
-    some_names _ c.if-row-ne-ROW.false c.if-count-gt-LIMIT.false _ _ c.split_at.ensures.front c.split_at.ensures.back _ c.are_names.ensures c.if-are_names.true _
-    (all_from_yields_List (λ n. eqb n 0) _ _ _ c.all.ensures.ran (YieldsList-from_slice c.split_at.result.1.now cc) (λ x b q k. search (rules, tests)) ∙ each_is (λ n. eqb n 0) c.split_at.result.1.now)
+pub loop-i-init : goal.loop-i-init
+loop-i-init c = search (shaping, rules)
 
-pub returns-else-are_names : goal.returns-else-are_names
-returns-else-are_names c = no_names _ c.if-row-ne-ROW.false c.if-count-gt-LIMIT.false _ _ c.split_at.ensures.front c.split_at.ensures.back _ c.are_names.ensures c.if-are_names.false
+pub returns-then-x-low : goal.returns-then-x-low
+returns-then-x-low c = search (shaping, rules)
+
+pub returns-then-x-gt-LAST : goal.returns-then-x-gt-LAST
+returns-then-x-gt-LAST c = search (shaping, rules)
+
+pub returns-then-x-ne0 : goal.returns-then-x-ne0
+returns-then-x-ne0 c = search (shaping, rules)
+
+pub loop-i-preserved : goal.loop-i-preserved
+loop-i-preserved c = elim c.if-i-count.branch [
+  | then-i-count+else-x-low+else-x-gt-LAST w ↦ rw w.low-is (shape_next _ _ _ _ _ c.loop-i.invariant c.loop-i-test.true w.if-i-count.true w.if-x-low.false w.if-x-gt-LAST.false)
+  | else-i-count+else-x-ne0 w ↦ rw w.low-is (shape_zero _ _ _ _ _ c.loop-i.invariant c.loop-i-test.true w.if-i-count.false w.if-x-ne0.false)
+]
+
+pub returns : goal.returns
+returns c = search (shaping, rules)

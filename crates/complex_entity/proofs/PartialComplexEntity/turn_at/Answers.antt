@@ -11,11 +11,11 @@ returns-in-None-Some c = search (turning, rules)
 pub returns-in-Some-None : goal.returns-in-Some-None
 returns-in-Some-None c = search (turning, rules)
 
-pub returns-in-Less : goal.returns-in-Less
-returns-in-Less c = search (turning, rules)
+pub returns-then-x-y : goal.returns-then-x-y
+returns-then-x-y c = search (turning, rules)
 
-pub returns-in-Equal : goal.returns-in-Equal
-returns-in-Equal c = search (turning, rules)
+pub returns-then-y-x : goal.returns-then-y-x
+returns-then-y-x c = search (turning, rules)
 
-pub returns-in-Greater : goal.returns-in-Greater
-returns-in-Greater c = search (turning, rules)
+pub returns-else-y-x : goal.returns-else-y-x
+returns-else-y-x c = search (turning, rules)

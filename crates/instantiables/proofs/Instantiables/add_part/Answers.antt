@@ -1,28 +1,11 @@
--- `add_part` meets its contract: the place says what the list with the part is.
-use borrow.Author.Rules.{rules}
-use Rattle.instantiables.proofs.Insertion.{inserting}
+-- `add_part` meets its contract: the part that is added has the same names.
+use mathlib.Core.Path.{sym, ap, ◌∙◌}
+use Rattle.complex_entity.specs.MirrorParts.{names_of, part_of}
+use Rattle.complex_entity.proofs.Names.{names_of_part}
 use Rattle.instantiables.proofs.Instantiables.add_part.Goals as goal
 
-pub returns-in_default : goal.returns-in_default
-returns-in_default c = search (inserting, rules)
-
-pub returns-then-self-ge-LIMIT : goal.returns-then-self-ge-LIMIT
-returns-then-self-ge-LIMIT c = search (inserting, rules)
-
-pub overflow_mul-at : goal.overflow_mul-at
-overflow_mul-at c = search (inserting, rules)
-
-pub overflow_add-at : goal.overflow_add-at
-overflow_add-at c = search (inserting, rules)
-
-pub overflow_sub-self : goal.overflow_sub-self
-overflow_sub-self c = search (inserting, rules)
-
-pub raise-requires : goal.raise-requires
-raise-requires c = search (inserting, rules)
-
-pub write-requires : goal.write-requires
-write-requires c = search (inserting, rules)
+pub add_padded-requires : goal.add_padded-requires
+add_padded-requires c = (c.requires, c.padded.ensures ∙ ap part_of (sym (ap names_of c.padded.ensures ∙ names_of_part (names_of c.args.part))))
 
 pub returns : goal.returns
-returns c = search (inserting, rules)
+returns c = rw (ap names_of c.padded.ensures ∙ names_of_part (names_of c.args.part)) at c.add_padded.ensures
