@@ -1,9 +1,10 @@
--- Numbers that move: the loop of `raise`, and a row where it stands.
+-- Numbers that move: the loops of `raise` and `copy`, and a row where it stands.
 use Prim.Native.Nat.{ℕ, suc, ◌+◌, ◌-◌, ◌≤◌, ◌<◌}
 use mathlib.Core.Path.{◌≡◌, refl, sym, ap, ◌∙◌}
 use mathlib.Core.List.{List, [], ◌∷◌, ◌++◌, append_assoc}
 use native.Mathlib.Omega.{arith}
 use native.Mathlib.Nat.{add-zero}
+use native.Mathlib.Numerals.{add-one}
 use lib.ListN.{length, get_or, take, drop, set, length-set, length-drop, take-append-drop, drop_of_length-le, get_or-append}
 use lib.Seq.{paste, take-add, drop_at, take-suc, drop-cons, append_snoc, set_at, get_or-take, get_or-drop, length-take-le}
 
@@ -69,6 +70,40 @@ module _ (rows₀ rows : List ℕ) (from to n k : ℕ) (f : Raising rows₀ rows
       })
 
 pub ruleset raising = (raise_start, raise_done, raise_next)
+
+-- ---- the loop of `copy`: the first i numbers are the other slice's, and the rest is what it was
+
+pub record Copying (to₀ to from : List ℕ) (n i : ℕ) : Type 0 where
+  pub at : i ≤ n
+  pub in_to : n ≤ length to₀
+  pub in_from : n ≤ length from
+  pub is : to ≡ take i from ++ drop i to₀
+  pub long : length to ≡ length to₀
+
+pub copy_start : (to from : List ℕ) (n : ℕ) → n ≤ length to → n ≤ length from → Copying to to from n 0
+copy_start to from n h k = record { at = omega arith; in_to = h; in_from = k; is = refl; long = refl }
+
+module _ (to₀ to from : List ℕ) (n i : ℕ) (f : Copying to₀ to from n i) where
+  pub copy_done : n ≤ i → to ≡ take n from ++ drop n to₀
+  copy_done h = let e : i ≡ n = omega (arith, f.at) in f.is ∙ ap (λ (j : ℕ). take j from ++ drop j to₀) e
+
+  module _ (h : i < n) where
+    pub copy_next : Copying to₀ (set to i (get_or from i 0)) from n (i + 1)
+    copy_next =
+        let a : i < length from = omega (arith, f.in_from) in
+        let b : i < length to₀ = omega (arith, f.in_to) in
+        record {
+          at = omega arith;
+          in_to = f.in_to;
+          in_from = f.in_from;
+          is =
+              rw (add-one i, f.is, drop-cons to₀ i 0 b, take-suc from i 0 a)
+              (set_at (take i from) (get_or to₀ i 0) (drop (suc i) to₀) (get_or from i 0) i (length-take-le i from (omega arith))
+              ∙ sym (append_snoc (take i from) (get_or from i 0) (drop (suc i) to₀)));
+          long = length-set to _ _ ∙ f.long;
+        }
+
+pub ruleset copying = (copy_start, copy_done, copy_next)
 
 -- a row where it stands
 pub row_slice : (l : List ℕ) (a : ℕ) → a + 13 ≤ length l → drop a (take (a + 13) l) ≡ take 13 (drop a l)

@@ -186,10 +186,12 @@ pub fn raise(rows: &mut [u16], from: usize, to: usize, n: usize)
     }
 }
 
-// The first n numbers of one slice go to the front of another.
+// The first n numbers of one slice go to the front of another. Not by `copy_from_slice`, for the same reason.
 pub fn copy(to: &mut [u16], from: &[u16], n: usize)
     requires { (n ≤ length to.old) × (n ≤ length from.now) }
     ensures { to.new ≡ take n from.now ++ drop n to.old }
 {
-    to[..n].copy_from_slice(&from[..n]);
+    for i in 0..n {
+        to[i] = from[i];
+    }
 }
