@@ -132,9 +132,9 @@ module _ (left right : List ℕ) (n m : Instantiables) (en : n.count ≡ length 
     unfolding value_of K L
     sum after t f = valued (held (add (parts_in left) (parts_in right))) work after t (narrow_held (add (parts_in left) (parts_in right))) (rw (en, em) at f)
 
-    sum_over : (why : Refusal) → r ≡ Err why → Valued (value_of plus (parts_in left) (parts_in right)) work' (refused (number_of why.reason) why.place)
+    sum_over : (why : Refusal) → r ≡ Err why → Valued (value_of plus (parts_in left) (parts_in right)) work' (told_listed r)
     sum_over why u =
-        sum work' _ (rw (ap told_listed u) at (grow_over work work 0 (K ++ L) (held (add K L)) first work' K (told_listed r) put L refl (number_of why.reason) why.place (ap told_listed u)))
+        sum work' (told_listed r) (grow_over work work 0 (K ++ L) (held (add K L)) first work' K (told_listed r) put L refl (number_of why.reason) why.place (ap told_listed u))
 
     module _ (l : Instantiables) (u : r ≡ Ok l) where
       next : Growing work work' l.count L (held (add K L))
@@ -177,7 +177,7 @@ module _ (left right : List ℕ) (n m : Instantiables) (en : n.count ≡ length 
 -- a refusal of `+` comes before the right list is read
 pub sum_refused : (left right work : List ℕ) (n : Instantiables) → n.count ≡ length left / 13 → 1664 ≤ length work → (e : Instantiables) → e ≡ record { count = 0 } → (work' : List ℕ) (r : Result Instantiables Refusal)
     → Listing (held (add (parts_at e.count work) (parts_at n.count left))) work work' (told_listed r) → (why : Refusal) → r ≡ Err why
-    → Valued (value_of plus (parts_in left) (parts_in right)) work' (refused (number_of why.reason) why.place)
+    → Valued (value_of plus (parts_in left) (parts_in right)) work' (told_listed r)
 sum_refused left right work n en room e z work' r g why u = sum_over left right n (record { count = length right / 13 }) en refl work room e z work' r g why u
 
 pub ruleset valuing = (none_stands, left_there, right_there, sum_refused, sum_stands, sum_done, value_bitand, value_sub, value_div)

@@ -37,9 +37,11 @@ impl Operator for Add {
 
     // The rows come in any order: both lists are added to an empty one, which sorts them.
     fn value(work: &mut [u16], left: &[u16], right: &[u16]) -> Result<Instantiables, Refusal> {
-        Instantiables::empty()
-            .add(work, listed(left), left)?
-            .add(work, listed(right), right)
+        let answer = Instantiables::empty().add(work, listed(left), left);
+        let Ok(list) = answer else {
+            return answer;
+        };
+        list.add(work, listed(right), right)
     }
 }
 
