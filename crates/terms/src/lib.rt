@@ -29,7 +29,9 @@ pub fn take_in(
     requires in_bounds { (1664 ≤ length factor.old) × (1664 ≤ length scratch.old) }
     ensures { Valuing (with_term (kind_of kind) n (list_at list rows.old) (parts_at term.count (drop 1664 rows.old))) rows.new (told_listed result) }
 {
-    let own = list?;
+    let Ok(own) = list else {
+        return list;
+    };
     copy(factor, &rows[Instantiables::ROOM..], 13 * term.count);
     match Kind::from(kind) {
         Kind::Andor => own.andor_step(rows, term, factor, scratch),
