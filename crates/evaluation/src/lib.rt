@@ -60,7 +60,10 @@ pub fn eval_terms(
     while !left.is_empty() {
         let (term, behind) = left.split_at(usize::from(left[2]));
         let above = &mut rows[Instantiables::ROOM..];
-        let new = eval_node(term, above, factor, scratch, depth - 1)?;
+        let answer = eval_node(term, above, factor, scratch, depth - 1);
+        let Ok(new) = answer else {
+            return answer;
+        };
         list = take_in(kind, n, list, rows, new, factor, scratch);
         n += 1;
         left = behind;

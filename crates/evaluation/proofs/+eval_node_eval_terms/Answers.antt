@@ -54,8 +54,8 @@ eval_terms-split_at-requires t c =
     let more : length c.loop-left.left.now ≡ 0 → ⊥ = search (rules, tests) in
     omega (arith, span_inside c.loop-left.invariant more, c.from.ensures)
 
-pub eval_terms-eval_node-requires : goal.eval_terms-eval_node-requires
-eval_terms-eval_node-requires t c =
+pub eval_terms-eval_node-answer-requires : goal.eval_terms-eval_node-answer-requires
+eval_terms-eval_node-answer-requires t c =
     let more : length c.loop-left.left.now ≡ 0 → ⊥ = search (rules, tests) in (
       omega (arith, c.decreases, (ahead c.loop-left.invariant more).high, c.loop-left.invariant.left_high),
       (
@@ -64,16 +64,16 @@ eval_terms-eval_node-requires t c =
       ),
     )
 
-pub eval_terms-returns-in_err-new : goal.eval_terms-returns-in_err-new
-eval_terms-returns-in_err-new t c =
+pub eval_terms-returns-in_default : goal.eval_terms-returns-in_default
+eval_terms-returns-in_default t c =
     let more : length c.loop-left.left.now ≡ 0 → ⊥ = search (rules, tests) in
-    handed c.loop-left.invariant more c.eval_node.result c.eval_node.new.rows c.eval_node.auto.rows c.split_at.result.0.now (c.split_at.ensures.front ∙ ap (λ (k : ℕ). take k c.loop-left.left.now) c.from.ensures) c.eval_node.ensures _ c.in_err-new.was c.from_residual.result (search rules) _
+    handed c.loop-left.invariant more c.eval_node-answer.result c.eval_node-answer.new.rows c.eval_node-answer.auto.rows c.split_at.result.0.now (c.split_at.ensures.front ∙ ap (λ (k : ℕ). take k c.loop-left.left.now) c.from.ensures) c.eval_node-answer.ensures _ c.in_default.is _ c.in_default.is _
 
 pub eval_terms-take_in-list-requires-clause-ready : goal.eval_terms-take_in-list-requires-clause-ready
 eval_terms-take_in-list-requires-clause-ready t c =
     let more : length c.loop-left.left.now ≡ 0 → ⊥ = search (rules, tests) in
-    let rc = ready_child c.loop-left.invariant more c.eval_node.result c.eval_node.new.rows c.eval_node.auto.rows c.split_at.result.0.now (c.split_at.ensures.front ∙ ap (λ (k : ℕ). take k c.loop-left.left.now) c.from.ensures) c.eval_node.ensures c.in_ok-new.new c.in_ok-new.was in
-    (ready_own c.loop-left.invariant more c.eval_node.result c.eval_node.new.rows c.eval_node.auto.rows c.split_at.result.0.now (c.split_at.ensures.front ∙ ap (λ (k : ℕ). take k c.loop-left.left.now) c.from.ensures) c.eval_node.ensures c.in_ok-new.new c.in_ok-new.was, rc.0, rc.1)
+    let rc = ready_child c.loop-left.invariant more c.eval_node-answer.result c.eval_node-answer.new.rows c.eval_node-answer.auto.rows c.split_at.result.0.now (c.split_at.ensures.front ∙ ap (λ (k : ℕ). take k c.loop-left.left.now) c.from.ensures) c.eval_node-answer.ensures c.in-Ok.new c.in-Ok.is in
+    (ready_own c.loop-left.invariant more c.eval_node-answer.result c.eval_node-answer.new.rows c.eval_node-answer.auto.rows c.split_at.result.0.now (c.split_at.ensures.front ∙ ap (λ (k : ℕ). take k c.loop-left.left.now) c.from.ensures) c.eval_node-answer.ensures c.in-Ok.new c.in-Ok.is, rc.0, rc.1)
 
 pub eval_terms-overflow_add-n : goal.eval_terms-overflow_add-n
 eval_terms-overflow_add-n t c =
@@ -88,9 +88,9 @@ eval_terms-loop-left-smaller t c =
 pub eval_terms-loop-left-preserved : goal.eval_terms-loop-left-preserved
 eval_terms-loop-left-preserved t c =
     let more : length c.loop-left.left.now ≡ 0 → ⊥ = search (rules, tests) in
-    onward c.loop-left.invariant more c.eval_node.result c.eval_node.new.rows c.eval_node.auto.rows c.split_at.result.0.now (c.split_at.ensures.front ∙ ap (λ (k : ℕ). take k c.loop-left.left.now) c.from.ensures) c.eval_node.ensures c.in_ok-new.new c.in_ok-new.was c.split_at.result.1.now (c.split_at.ensures.back ∙ ap (λ (k : ℕ). drop k c.loop-left.left.now) c.from.ensures) _ _ _ _ c.take_in-list.auto.rows
-    (c.take_in-list.auto.factor ∙ c.eval_node.auto.factor)
-    (c.take_in-list.auto.scratch ∙ c.eval_node.auto.scratch)
+    onward c.loop-left.invariant more c.eval_node-answer.result c.eval_node-answer.new.rows c.eval_node-answer.auto.rows c.split_at.result.0.now (c.split_at.ensures.front ∙ ap (λ (k : ℕ). take k c.loop-left.left.now) c.from.ensures) c.eval_node-answer.ensures c.in-Ok.new c.in-Ok.is c.split_at.result.1.now (c.split_at.ensures.back ∙ ap (λ (k : ℕ). drop k c.loop-left.left.now) c.from.ensures) _ _ _ _ c.take_in-list.auto.rows
+    (c.take_in-list.auto.factor ∙ c.eval_node-answer.auto.factor)
+    (c.take_in-list.auto.scratch ∙ c.eval_node-answer.auto.scratch)
     c.take_in-list.ensures
 
 pub eval_terms-returns : goal.eval_terms-returns
