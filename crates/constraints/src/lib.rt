@@ -141,7 +141,10 @@ fn row_handed(
     ensures { PromiseRow (told_reading reading) sheet.now query.now number workspace.old out.old result (left sheet.now workspace.new) out.new }
 {
     let (path, streams) = gathered(reading, sheet, read_path(query), workspace)?;
-    let list = list_at(reading, sheet, query, path, streams, workspace)?;
+    let answer = list_at(reading, sheet, query, path, streams, workspace);
+    let Ok(list) = answer else {
+        return answer;
+    };
     let part = set_at(&workspace[RECORDS..], list.count, number)?;
     hand_out_part(part, out)
 }
