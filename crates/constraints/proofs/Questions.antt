@@ -29,7 +29,7 @@ use Rattle.instantiables.specs.Told.{told_listed}
 use Rattle.instantiables.specs.declared.Instantiables.{Instantiables}
 use Rattle.operands.specs.MeaningOperands.{read_part, both, part}
 use Rattle.operands.specs.MeaningResults.{fitting, one}
-use Rattle.operands.specs.MirrorResults.{Handed}
+use Rattle.operands.specs.MirrorResults.{Handed, fitted, handed}
 use Rattle.operands.specs.Promises as rows
 use Rattle.operands.proofs.Handing.{refused_answers}
 use Rattle.expression.specs.MeaningNumbers.{number_of, set_at}
@@ -161,6 +161,15 @@ module _ (rd : Reading) (s q work : List ℕ) (asked : Result Path Refusal) (h :
       list_fits v w (let z = g.stands (path, x) e in (L z.0 z.2).stands) out out' t a,
       kept_on rd s work (told asked) r work' g (path, x) e w n,
     )
+
+    module _ (path : Path) (x : Streams) (e : r ≡ Ok (path, x)) (v : Result Instantiables Refusal) (w : List ℕ) (L : (b : Both) → Standing b x work' → ListedAs (list_in (declaration_for rd (schemas_in s) (told_path q path)) b) v w)
+        (n : length w ≡ length work') where
+      pub list_none : (why : Refusal) → v ≡ Err why → (t : Result Instantiables Refusal) → t ≡ Err why → PromiseList rd s q work out t (left s w) out
+      unfolding fitted handed
+      list_none why f t j = list_handed path x e v w L n t out (rw (f, j) (record { says = refl; buffer = refl }))
+
+      pub list_given : (l : Instantiables) → v ≡ Ok l → (t : Result Instantiables Refusal) (out' : List ℕ) → Handed (done l.count) (take (length w - 2048) (drop 2048 w)) out (told_listed t) out' → PromiseList rd s q work out t (left s w) out'
+      list_given l f t out' a = list_handed path x e v w L n t out' (rw f a)
 
   -- `row_at`
   module _ (out : List ℕ) (i : ℕ) where

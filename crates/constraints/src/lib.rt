@@ -97,8 +97,11 @@ fn list_handed(
     ensures { PromiseList (told_reading reading) sheet.now query.now workspace.old out.old result (left sheet.now workspace.new) out.new }
 {
     let (path, streams) = gathered(reading, sheet, read_path(query), workspace)?;
-    let list = list_at(reading, sheet, query, path, streams, workspace);
-    hand_out(list, &workspace[RECORDS..], out)
+    let answer = list_at(reading, sheet, query, path, streams, workspace);
+    let Ok(list) = answer else {
+        return answer;
+    };
+    hand_out(Ok(list), &workspace[RECORDS..], out)
 }
 
 // Number to row, into a lent buffer.
