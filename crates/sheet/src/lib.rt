@@ -156,12 +156,17 @@ impl Judge<'_> {
                         stop,
                     },
                 ) => {
+                    let parent = self.table.parent(tag);
                     let inside = Value {
-                        parent: self.table.parent(tag),
+                        parent,
                         end: stop,
                         depth,
                     };
-                    c = self.check_fields(inside, start, counts)?;
+                    let answer = self.check_fields(inside, start, counts);
+                    let Ok(after) = answer else {
+                        return answer;
+                    };
+                    c = after;
                     from = stop;
                     state = next;
                 }
