@@ -4,6 +4,7 @@
 ghost use Rattle.std.specs.Prelude.{◌≡◌, MatchOption};
 ghost use Rattle.expression.specs.MirrorNodes.{Node};
 ghost use Rattle.lines.specs.Places.{Written};
+ghost use Rattle.replay_rows.specs.Asked.{Answering};
 
 mod valuing;
 
@@ -120,7 +121,8 @@ fn of_two<A: Fn(&[u16], &[u16], &mut [u16]) -> Result<Instantiables, Refusal>>(
     out: &mut [u8],
     ask: A,
 ) -> Option<usize>
-    requires { A.IsAlwaysCallable ask }
+    requires callable { A.IsAlwaysCallable ask }
+    requires some_answer { Answering (A.post ask) }
     ensures { MatchOption result (out.new ≡ out.old) (λ end. Written 0 end out.old out.new) }
 {
     let mut first = [0u16; WORD];
