@@ -199,9 +199,12 @@ fn read_path_and_row(query: &[u8], row: &[u16]) -> Result<(Path, PartialComplexE
     ensures says { told_by (told_both query.now) result ≡ path_and_part query.now row.now }
     ensures within { IfOk result (λ asked. Spans query.now asked.0.scope.one × Spans query.now asked.0.item) }
 {
-    let path = read_path(query)?;
-    let part = read_row(row)?;
-    Ok((path, part))
+    match (read_path(query), read_row(row)) {
+        (Err(first), Err(_then)) => Err(first),
+        (Err(first), Ok(_)) => Err(first),
+        (Ok(_), Err(then)) => Err(then),
+        (Ok(path), Ok(part)) => Ok((path, part)),
+    }
 }
 
 // The row that is asked for; 15 at the first that is wrong.
