@@ -17,9 +17,8 @@ fn lent(place: usize) -> u16
 pub fn lend(word: &[u8], buffer: &mut [u16]) -> Option<usize>
     ensures { AtMost (length buffer.new) result }
 {
-    // by the place: a loop over the numbers themselves takes four times as long
-    for place in 0..buffer.len() {
-        buffer[place] = lent(place);
+    for (place, number) in buffer.iter_mut().enumerate() {
+        *number = lent(place);
     }
     decimal_to(word, buffer.len())
 }
