@@ -1,6 +1,7 @@
 -- The walk over a node and its terms: what the code reads there, what stands in the lent memory, and what is still to come.
 use mathlib.Core.Path.{◌≡◌, refl, sym, ap, ◌∙◌}
 use mathlib.Core.List.{List, [], ◌∷◌, ◌++◌, append-nil, flat_map}
+use mathlib.Core.Logic.{◌⊎◌, inl, inr}
 use mathlib.Core.Option.{Option, none, some}
 use Prim.Native.Nat.{ℕ, suc, ◌+◌, ◌-◌, ◌*◌, ◌≤◌, ◌<◌, max}
 use native.Mathlib.Numerals.{add-one}
@@ -105,6 +106,12 @@ next_term rest (e then t) d lt =
       worth = refl;
     }
 
+-- a term has numbers, so the walk comes nearer its end
+moves : (rest : List ℕ) (left : Terms ℕ) → rest ≡ flats left → (length rest ≡ 0) ⊎ (3 ≤ get_or rest 2 0)
+unfolding flat
+moves rest end d = inl (ap length d)
+moves rest (e then t) d = inr (rw d (rw (span_at_law e (flats t)) (flat_long e)))
+
 -- no term stands at the end
 none_left : (rest : List ℕ) (left : Terms ℕ) → rest ≡ flats left → length rest ≡ 0 → values left ≡ done []
 unfolding flat eval
@@ -171,6 +178,7 @@ pub record Going (kind : Kind) (terms rows₀ factor₀ scratch₀ : List ℕ) (
   pub all_is : terms ≡ flats all
   pub left : Terms ℕ
   pub left_is : rest ≡ flats left
+  pub left_moves : (length rest ≡ 0) ⊎ (3 ≤ get_or rest 2 0)
   pub left_high : 2 * heights left + 1 ≤ depth
   pub so_far : Answer (List Part)
   pub fine : Fine so_far
@@ -198,6 +206,7 @@ set_out kind terms l factor scratch depth own small w a b c e =
       all_is = w.is;
       left = w.terms;
       left_is = w.is;
+      left_moves = moves terms w.terms w.is;
       left_high = w.high;
       so_far = done [];
       fine = good_empty;
@@ -327,6 +336,7 @@ module _ {kind : Kind} {terms rows₀ factor₀ scratch₀ : List ℕ} {depth : 
               all_is = g.all_is;
               left = x.later;
               left_is = q ∙ x.there;
+              left_moves = moves behind x.later (q ∙ x.there);
               left_high = omega (arith, x.high, g.left_high);
               so_far = with_term kind n g.so_far L;
               fine = fine_next kind n g.so_far L g.fine good;
@@ -349,9 +359,5 @@ module _ {kind : Kind} {terms rows₀ factor₀ scratch₀ : List ℕ} {depth : 
             turn =
                 let y : values g.left ≡ (values (ahead lt).later >>= λ Ls. done (parts_at v.count ys ∷ Ls)) = (ahead lt).worth ∙ simp child_stands.0 in
                 ap (λ (u : Answer (List (List Part))). u >>= folded kind n g.so_far) y ∙ more (parts_at v.count ys) (values (ahead lt).later)
-
--- the walk comes nearer its end
-pub fewer : (rest behind : List ℕ) → 3 ≤ get_or rest 2 0 → (length rest ≡ 0 → ⊥) → behind ≡ drop (get_or rest 2 0) rest → length behind < length rest
-fewer rest behind h lt q = omega (arith, ap length q, length-drop (get_or rest 2 0) rest)
 
 pub ruleset walking = (set_out, ended, third_inside, span_inside, one_more, long_enough, rows_again, handed)

@@ -101,8 +101,8 @@ module _ (rd : Reading) (s : List ℕ) (p at e d from st : ℕ) (c : Counts) (r 
   stepped : (told_at from x >>= after (walk_at rd s) p e d) ≡ r
   stepped = rw q (sym (walk_eq rd s p st from e d c) ∙ f.rest)
 
-  pub walk_stop : (y : Reason) → x ≡ Err y → (z : Refusal) → z ≡ record { reason = y; place = from } → told_refusal z ≡ r
-  walk_stop y h z w = let v = stepped in rw w (rw h at v)
+  pub walk_stop : (y : Reason) → x ≡ Err y → (p : ℕ) → p ≡ from → (z : Refusal) → z ≡ record { reason = y; place = p } → told_refusal z ≡ r
+  walk_stop y h p i z w = let v = stepped in rw w (rw i (rw h at v))
 
   pub walk_done : (y : Step) → x ≡ Ok y → (k : Counts) → y ≡ Done k → done k ≡ r
   unfolding after
@@ -159,4 +159,4 @@ module _ (rd : Reading) (s : List ℕ) (p at e d from st : ℕ) (c : Counts) (r 
           let w = entered in
           record { begun = omega (arith, f.begun); inside_it = m.2; fitting = f.fitting; rest = rw l at w }
 
-pub ruleset walking = (walk_start, walk_stop, walk_done, walk_less, walk_past, enter_less, enter_order, enter_in, enter_on, walk_up, walk_on)
+pub ruleset walking = (walk_start, walk_done, walk_less, walk_past, enter_less, enter_order, enter_in, enter_on, walk_up, walk_on)

@@ -5,7 +5,7 @@ use lib.ListN.{length, take, drop}
 use borrow.Author.Tests.{tests}
 use native.Mathlib.Omega.{arith}
 use borrow.Author.Rules.{rules}
-use Rattle.evaluation.proofs.Walking.{node_long, tall, leaf, inner, opened, ahead, walking, child, child_room, ready_own, ready_child, onward, third_inside, span_inside, one_more, fewer, ended, handed}
+use Rattle.evaluation.proofs.Walking.{node_long, tall, leaf, inner, opened, ahead, walking, child, child_room, ready_own, ready_child, onward, third_inside, span_inside, one_more, ended, handed}
 use Rattle.evaluation.proofs.+eval_node_eval_terms.Goals as goal
 
 pub eval_node-bounds-nodes-0 : goal.eval_node-bounds-nodes-0
@@ -79,11 +79,6 @@ pub eval_terms-overflow_add-n : goal.eval_terms-overflow_add-n
 eval_terms-overflow_add-n t c =
     let more : length c.loop-left.left.now ≡ 0 → ⊥ = search (rules, tests) in
     one_more c.loop-left.invariant more
-
-pub eval_terms-loop-left-smaller : goal.eval_terms-loop-left-smaller
-eval_terms-loop-left-smaller t c =
-    let more : length c.loop-left.left.now ≡ 0 → ⊥ = search (rules, tests) in
-    fewer c.loop-left.left.now c.split_at.result.1.now (ahead c.loop-left.invariant more).some_numbers more (c.split_at.ensures.back ∙ ap (λ (k : ℕ). drop k c.loop-left.left.now) c.from.ensures)
 
 pub eval_terms-loop-left-preserved : goal.eval_terms-loop-left-preserved
 eval_terms-loop-left-preserved t c =

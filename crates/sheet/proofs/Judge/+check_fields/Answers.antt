@@ -1,9 +1,11 @@
+use native.Mathlib.Omega.{arith}
 use borrow.Author.Rules.{rules}
-use Rattle.sheet.proofs.Onward.{walking}
+use Rattle.sheet.proofs.Onward.{walking, walk_stop}
 use Rattle.sheet.proofs.Judge.+check_fields.Goals as goal
 
 pub returns-in-Err : goal.returns-in-Err
-returns-in-Err t c = search (walking, rules)
+-- the place is compared, not looked for: it is the step's, however the code says so
+returns-in-Err t c = walk_stop _ _ _ _ _ _ _ _ _ _ c.loop-reason.invariant _ c.step_at.ensures _ c.in-Err.is _ (omega arith) _ c.at.ensures
 
 pub returns-in-Ok-Done : goal.returns-in-Ok-Done
 returns-in-Ok-Done t c = search (walking, rules)
