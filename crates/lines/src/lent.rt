@@ -6,21 +6,34 @@ ghost use Rattle.lines.specs.Values.{AtMost};
 use crate::values::decimal_to;
 use crate::writing::{hex, text};
 
+// So many numbers on the pattern is the same again.
+const TURN: usize = 20000;
+
 // The number that stands at a place of a buffer as it is lent.
 fn lent(place: usize) -> u16
     ensures { result ≡ 40000 + place % 20000 }
 {
-    (40000 + place % 20000) as u16
+    (40000 + place % TURN) as u16
 }
 
 // How many of the numbers are lent, as the word says. All are filled, so a change past them would show.
 pub fn lend(word: &[u8], buffer: &mut [u16]) -> Option<usize>
     ensures { AtMost (length buffer.new) result }
 {
-    for (place, number) in buffer.iter_mut().enumerate() {
-        *number = lent(place);
+    for turn in buffer.chunks_mut(TURN) {
+        fill(turn);
     }
     decimal_to(word, buffer.len())
+}
+
+// Fills the numbers from where the pattern begins, without a remainder for each of them: many are filled at once then.
+fn fill(turn: &mut [u16])
+    requires { length turn.old ≤ 20000 }
+    ensures { length turn.new ≡ length turn.old }
+{
+    for (place, number) in turn.iter_mut().enumerate() {
+        *number = (40000 + place) as u16;
+    }
 }
 
 // How many numbers there are up to the last that is not as it was lent.
