@@ -112,6 +112,10 @@ unfolding flat
 moves rest end d = inl (ap length d)
 moves rest (e then t) d = inr (rw d (rw (span_at_law e (flats t)) (flat_long e)))
 
+-- what is left behind a term is shorter
+pub fewer : (rest behind : List ℕ) → 3 ≤ get_or rest 2 0 → (length rest ≡ 0 → ⊥) → behind ≡ drop (get_or rest 2 0) rest → length behind < length rest
+fewer rest behind h lt q = omega (arith, ap length q, length-drop (get_or rest 2 0) rest)
+
 -- no term stands at the end
 none_left : (rest : List ℕ) (left : Terms ℕ) → rest ≡ flats left → length rest ≡ 0 → values left ≡ done []
 unfolding flat eval
@@ -325,7 +329,7 @@ module _ {kind : Kind} {terms rows₀ factor₀ scratch₀ : List ℕ} {depth : 
             let good : Good L = good_child in
             record {
               countable = g.countable;
-              count = omega (arith, g.count, x.some_numbers, x.fits, ap length q, length-drop (get_or rest 2 0) rest);
+              count = omega (arith, g.count, fewer rest behind x.some_numbers lt q);
               rows_long = a ∙ rows_again;
               factor_long = b ∙ g.factor_long;
               scratch_long = c ∙ g.scratch_long;
